@@ -1,0 +1,197 @@
+// The camera's fields and its two series of images: what an executed command sets, and what a second does.
+// Macro commands are not the camera's: executing one leaves it as it is.
+ghost use mathlib.Core.Path.{_≡_};
+ghost use Rattle.camera.specs.Series.{freshSeries, startedOf, timeAfter, secondOf, nextHolds};
+ghost use Rattle.camera.specs.Camera.{freshCamera, executedOf, cameraSecond};
+use wire::Kind;
+
+// A series of images: the seconds that it still runs, the interval, the seconds to the next image, the images so far.
+pub struct Series {
+    pub time: u16,
+    pub interval: u16,
+    pub next: u16,
+    pub count: u16,
+}
+
+// A time that never counts down.
+pub const FOR_EVER: u16 = 65535;
+
+// The time after a second.
+fn time_after(time: u16) -> u16
+    ensures { λ r. ⌜ r ≡ timeAfter time ⌝ }
+{
+    if time == FOR_EVER {
+        return FOR_EVER;
+    }
+    if time == 0 {
+        return 0;
+    }
+    time - 1
+}
+
+impl Series {
+    pub fn fresh() -> Series
+        ensures { λ r. ⌜ r ≡ freshSeries ⌝ }
+    {
+        Series {
+            time: 0,
+            interval: 1,
+            next: 0,
+            count: 0,
+        }
+    }
+
+    // A series that supersedes this one; its first image comes in the next second.
+    pub fn started(self, time: u16, interval: u16) -> Series
+        ensures { λ r. ⌜ r ≡ startedOf self time interval ⌝ }
+    {
+        Series {
+            time,
+            interval,
+            next: 1,
+            ..self
+        }
+    }
+
+    // What one second does.
+    pub fn second(self) -> Series
+        ensures { λ r. ⌜ r ≡ secondOf self ⌝ }
+    {
+        if self.time == 0 {
+            return self;
+        }
+        let time = time_after(self.time);
+        if self.next <= 1 {
+            Series {
+                time,
+                interval: self.interval,
+                next: self.interval,
+                count: std::num::wrapping_add_u16(self.count, 1),
+            }
+        } else {
+            Series {
+                time,
+                interval: self.interval,
+                next: self.next - 1,
+                count: self.count,
+            }
+        }
+    }
+
+    // Is the next image due within the interval, wherever the series runs?
+    pub fn is_paced(self) -> bool
+        ensures { λ r. ⌜ r ≡ nextHolds self ⌝ }
+    {
+        if self.time == 0 {
+            return true;
+        }
+        if self.next < 1 {
+            return false;
+        }
+        self.next <= self.interval
+    }
+}
+
+// The fields that executed commands set.
+pub struct Camera {
+    pub image: Series,
+    pub track: Series,
+    pub x: u16,
+    pub y: u16,
+    pub xgoal: u32,
+    pub ygoal: u32,
+    pub power: bool,
+    pub auto: bool,
+    pub tracking: bool,
+    pub algorithm: u8,
+    pub flushes: u8,
+}
+
+impl Camera {
+    pub fn fresh() -> Camera
+        ensures { λ r. ⌜ r ≡ freshCamera ⌝ }
+    {
+        let series = Series::fresh();
+        Camera {
+            image: series,
+            track: series,
+            x: 0,
+            y: 0,
+            xgoal: 0,
+            ygoal: 0,
+            power: false,
+            auto: false,
+            tracking: false,
+            algorithm: 0,
+            flushes: 0,
+        }
+    }
+
+    // An executed command takes effect at once.
+    pub fn executed(self, kind: Kind) -> Camera
+        ensures { λ r. ⌜ r ≡ executedOf self kind ⌝ }
+    {
+        let image = self.image;
+        let track = self.track;
+        match kind {
+            Kind::ImgPwr(mode) => Camera {
+                power: mode == 1,
+                ..self
+            },
+            Kind::ImgRegion(x, y) => Camera { x, y, ..self },
+            Kind::ImgTrack(time, interval) => {
+                let track = track.started(time, interval);
+                Camera { track, ..self }
+            }
+            Kind::TrkAlg(mode) => Camera {
+                algorithm: mode,
+                ..self
+            },
+            Kind::TrkLoop(mode) => Camera {
+                tracking: mode == 1,
+                ..self
+            },
+            Kind::ImgImage(time, interval) => {
+                let image = image.started(time, interval);
+                Camera { image, ..self }
+            }
+            Kind::TrkGoal(_, _) => {
+                let goal = wire::parts_of(kind);
+                Camera {
+                    xgoal: goal.first,
+                    ygoal: goal.second,
+                    ..self
+                }
+            }
+            Kind::TlmFlush => Camera {
+                flushes: std::num::wrapping_add_u8(self.flushes, 1),
+                ..self
+            },
+            Kind::FlushAuto(mode) => Camera {
+                auto: mode == 1,
+                ..self
+            },
+            Kind::Open(_) => self,
+            Kind::Close => self,
+            Kind::Run(_) => self,
+            Kind::Wait(_) => self,
+            Kind::Stop => self,
+            Kind::Clear => self,
+        }
+    }
+
+    // The first of the two things that a second does.
+    pub fn second(self) -> Camera
+        ensures { λ r. ⌜ r ≡ cameraSecond self ⌝ }
+    {
+        let image = self.image;
+        let track = self.track;
+        let image = image.second();
+        let track = track.second();
+        Camera {
+            image,
+            track,
+            ..self
+        }
+    }
+}

@@ -1,0 +1,19 @@
+-- `frame::count_holds` meets its contract: each byte is the one that `byte_at` promises.
+use borrow.Author.Needs.{needs}
+use Rattle.frame.proofs.count_holds.Statement.{statement}
+use Rattle.frame.proofs.count_holds.Tie as tie
+
+byte-at-requires : tie.Need-byte-at-requires
+byte-at-requires c κs = search needs
+
+cast-result : tie.Need-cast-result
+cast-result c = search needs
+
+byte-at-requires-2 : tie.Need-byte-at-requires-2
+byte-at-requires-2 c κs = search needs
+
+returns : tie.Need-returns
+returns c = rw (c .before .byte-at .ensures, c .byte-at2 .ensures)
+
+pub count-holds-spec : {M : Type 1} → statement M
+count-holds-spec = tie.close (tie.spec byte-at-requires cast-result byte-at-requires-2 returns)

@@ -1,0 +1,200 @@
+-- From one step of the reader to the answer of the whole: a refusal is an answer whose code is not 0, and each row that passes leaves the rows behind it.
+use Prim.Native.Nat.{ℕ, _*_, _-_, _≤_}
+use mathlib.Core.Path.{_≡_, refl, sym, ap, _∙_}
+use mathlib.Core.List.{List, [], _∷_}
+use mathlib.Core.Bool.{Bool, true, false, _||_}
+use native.Mathlib.Omega.{arith}
+use lib.ListN.{length}
+use lib.Dec.{eqb, leb, ltb}
+use borrow.Author.Tests.{eq-eqb, ne-eqb, ltb-false}
+use Rattle.words.specs.BigEndian.{halfAt, wordAt}
+use Rattle.wire.specs.declared.table.Form.{Form}
+use Rattle.wire.specs.declared.table.Row.{Row}
+use Rattle.wire.specs.declared.table.Found.{Found}
+use Rattle.wire.specs.declared.kinds.Kind.{Kind}
+use Rattle.wire.specs.declared.kinds.Command.{Command}
+use Rattle.wire.specs.declared.judging.Refusal.{Refusal}
+use Rattle.wire.specs.declared.judging.Told.{Told}
+use Rattle.wire.specs.declared.judging.Judged.{Judged}
+use Rattle.wire.specs.declared.decoding.Reading.{Reading}
+use Rattle.wire.specs.declared.decoding.Fields.{Fields}
+use Rattle.wire.specs.declared.decoding.Reach.{Reach}
+use Rattle.wire.proofs.Order.{due-none}
+use Rattle.wire.specs.Codes.{Check, _when_, firstOf}
+use Rattle.wire.specs.Table.{rowOf, ruleOf}
+use Rattle.wire.specs.Kind.{kindOf}
+use Rattle.wire.specs.Judge.{toldWith, toldOf, toldJudged, judgeCode, judged, parFor}
+use Rattle.wire.specs.Read.{Answer, answerOf, answerFor, fieldsOf, commandAs, decodeChecks, decodedAs, decoded, formIn, opcodeOf, lengthOf, sumOf}
+use Rattle.wire.specs.Read.{thirdWord, readWhole, commandIn, Reached, reachOf, reachCode, reachAt, reachChecks, wholeChecks, readCode, readOf, spanOf}
+
+-- The answer of a refusal.
+abbrev pub refusedBy : Told → Answer
+refusedBy told = record { told = told; taken = [] }
+
+-- No refusal has code 0.
+pub refusal-code : (r : Refusal) → eqb (toldOf r .code) 0 ≡ false
+refusal-code Refusal.TooFewBytes = refl
+refusal-code Refusal.LengthOutOfBounds = refl
+refusal-code Refusal.CutOff = refl
+refusal-code Refusal.SumDiffers = refl
+refusal-code Refusal.UnknownOpcode = refl
+refusal-code Refusal.WrongLength = refl
+refusal-code Refusal.PadNotZero = refl
+refusal-code (Refusal.OutOfRange par) = refl
+refusal-code Refusal.FlagForbidden = refl
+refusal-code Refusal.FlagMissing = refl
+refusal-code Refusal.NoRoom = refl
+
+-- What was told of a command is the answer to it: a refusal hands over nothing, and acceptance hands the command over.
+pub refused : (r : Refusal) (code : ℕ) (c : Command) → toldOf r ≡ toldWith code (parFor code c) → refusedBy (toldOf r) ≡ answerFor code c
+refused r code c e =
+    let other : eqb code 0 ≡ false = rw (ap (λ (t : Told). t .code) e) at (refusal-code r) in
+    rw (e, other)
+
+pub allowed : (code : ℕ) (c : Command) → toldWith 0 0 ≡ toldWith code (parFor code c) → record { told = toldWith 0 0; taken = c ∷ [] } ≡ answerFor code c
+allowed code c e = rw (← ap (λ (t : Told). t .code) e)
+
+-- Rows 7 to 10, from what the code holds: the row of the form, the fields by its layout, the kind made of them.
+module _ (form : Form) (flag : Bool) (one two : ℕ) (row : Row) (fields : Fields)
+    (is-row : row ≡ rowOf form) (are-fields : fields ≡ fieldsOf (row .layout) one two) where
+  same-fields : fields ≡ fieldsOf (rowOf form .layout) one two
+  same-fields = are-fields ∙ ap (λ (r : Row). fieldsOf (r .layout) one two) is-row
+
+  pub pad-refused : (fields .pad ≡ 0 → ⊥) → refusedBy (toldWith 7 0) ≡ decodedAs form flag one two
+  unfolding decodedAs
+  pad-refused h = rw (← same-fields) (simp (ne-eqb (fields .pad) 0 h))
+
+  pub pad-passed : fields .pad ≡ 0 → decodedAs form flag one two ≡ answerFor (judgeCode (commandAs form flag one two)) (commandAs form flag one two)
+  unfolding decodedAs judgeCode
+  pad-passed h =
+      let none : eqb (fieldsOf (rowOf form .layout) one two .pad) 0 ≡ true = rw (← same-fields) (eq-eqb (fields .pad) 0 h) in
+      simp none
+
+  module _ (kind : Kind) (made : kind ≡ kindOf form (fields .first) (fields .second)) (no-pad : fields .pad ≡ 0) where
+    same-command : record { flag = flag; kind = kind } ≡ commandAs form flag one two
+    same-command = rw (made, same-fields)
+
+    pub then-allowed : toldJudged Judged.Allowed ≡ judged (record { flag = flag; kind = kind })
+        → answerOf (Reading.Taken (record { flag = flag; kind = kind })) ≡ decodedAs form flag one two
+    then-allowed e =
+        allowed (judgeCode (record { flag = flag; kind = kind })) (record { flag = flag; kind = kind }) e
+        ∙ ap (λ (c : Command). answerFor (judgeCode c) c) same-command ∙ sym (pad-passed no-pad)
+
+    pub then-refused : (r : Refusal) → toldJudged (Judged.Refused r) ≡ judged (record { flag = flag; kind = kind })
+        → answerOf (Reading.Refused r) ≡ decodedAs form flag one two
+    then-refused r e =
+        refused r (judgeCode (record { flag = flag; kind = kind })) (record { flag = flag; kind = kind }) e
+        ∙ ap (λ (c : Command). answerFor (judgeCode c) c) same-command ∙ sym (pad-passed no-pad)
+
+-- Rows 5 and 6, from what was found for the opcode.
+module _ (opcode : ℕ) (flag : Bool) (words one two : ℕ) where
+  abbrev fromFound : Found → Answer
+  fromFound found = answerFor (firstOf (decodeChecks found flag words one two)) (commandAs (formIn found) flag one two)
+
+  from-found : (found : Found) → found ≡ ruleOf opcode → fromFound found ≡ decoded opcode flag words one two
+  unfolding decoded
+  from-found found e = ap fromFound e
+
+  pub unknown-refused : Found.Unknown ≡ ruleOf opcode → refusedBy (toldWith 5 0) ≡ decoded opcode flag words one two
+  unknown-refused e = from-found Found.Unknown e
+
+  pub length-refused : (form : Form) (n : ℕ) → Found.Known form n ≡ ruleOf opcode → (words ≡ n → ⊥)
+      → refusedBy (toldWith 6 0) ≡ decoded opcode flag words one two
+  length-refused form n e h = simp (ne-eqb words n h) at (from-found (Found.Known form n) e)
+
+  pub length-passed : (form : Form) (n : ℕ) → Found.Known form n ≡ ruleOf opcode → words ≡ n
+      → decodedAs form flag one two ≡ decoded opcode flag words one two
+  unfolding decodedAs
+  length-passed form n e h = simp (eq-eqb words n h) at (from-found (Found.Known form n) e)
+
+-- Row 4, from what the code holds: the sum, the last word, and the head and the arguments of the command.
+module _ (s : List ℕ) (words sum last : ℕ) (is-sum : sum ≡ sumOf s (words - 1)) (is-last : last ≡ wordAt s ((words - 1) * 4)) where
+  pub sum-refused : (sum ≡ last → ⊥) → refusedBy (toldWith 4 0) ≡ readWhole s words
+  unfolding readWhole
+  sum-refused h = rw (← is-sum, ← is-last) (simp (ne-eqb sum last h))
+
+  pub sum-passed : (opcode half one two : ℕ) → opcode ≡ opcodeOf s → half ≡ halfAt s 2 → one ≡ wordAt s 4 → two ≡ thirdWord s words
+      → sum ≡ last → {a : Answer} → a ≡ decoded opcode (leb 32768 half) words one two → a ≡ readWhole s words
+  unfolding readWhole decoded
+  sum-passed opcode half one two is-opcode is-half is-one is-two h e =
+      let same : eqb (sumOf s (words - 1)) (wordAt s ((words - 1) * 4)) ≡ true = eq-eqb _ _ (sym is-sum ∙ h ∙ is-last) in
+      e ∙ rw (is-opcode, is-half, is-one, is-two) (simp same)
+
+-- Rows 1 to 3. Where none is due, a whole command stands at the front.
+pub record Reaches (s : List ℕ) : Type 0 where
+  pub head : 8 ≤ length s
+  pub least : 2 ≤ lengthOf s
+  pub most : lengthOf s ≤ 32
+  pub whole : lengthOf s * 4 ≤ length s
+
+neither : (a b : Bool) → (a || b) ≡ false → (a ≡ false) × (b ≡ false)
+neither false b e = (refl, e)
+neither true b e = absurd (let z : _≡_ {A = ℕ} 0 1 = cc in omega arith)
+
+pub reaches : (s : List ℕ) → reachCode s ≡ 0 → Reaches s
+reaches s e =
+    let passed = due-none 0 (reachChecks s) refl e in
+    let bounds = neither (ltb (lengthOf s) 2) (ltb 32 (lengthOf s)) (passed .1 .0) in
+    record {
+      head = ltb-false (length s) 8 (passed .0);
+      least = ltb-false (lengthOf s) 2 (bounds .0);
+      most = ltb-false 32 (lengthOf s) (bounds .1);
+      whole = ltb-false (length s) (lengthOf s * 4) (passed .1 .1 .0);
+    }
+
+-- One of rows 1 to 3 is the whole answer; where none is due, rows 4 to 10 are.
+ends : (few out cut : Bool) (rest : List Check) (c : Command)
+    → eqb (firstOf (1 when few ∷ 2 when out ∷ 3 when cut ∷ [])) 0 ≡ false
+    → refusedBy (toldWith (firstOf (1 when few ∷ 2 when out ∷ 3 when cut ∷ [])) 0) ≡ answerFor (firstOf (1 when few ∷ 2 when out ∷ 3 when cut ∷ rest)) c
+ends true out cut rest c h = refl
+ends false true cut rest c h = refl
+ends false false true rest c h = refl
+ends false false false rest c h = absurd (let z : _≡_ {A = ℕ} 0 1 = cc in omega arith)
+
+pub goes : (s : List ℕ) → reachCode s ≡ 0 → readCode s ≡ firstOf (wholeChecks s (lengthOf s))
+unfolding readCode
+goes s e =
+    let passed = due-none 0 (reachChecks s) refl e in
+    simp (passed .0, passed .1 .0, passed .1 .1 .0)
+
+-- What the code holds of the reach, for the reader and for the span.
+module _ (s : List ℕ) where
+  ends-code : (r : Refusal) → reachOf (Reach.Ends r) ≡ reachAt s → (toldOf r ≡ toldWith (reachCode s) 0) × (eqb (reachCode s) 0 ≡ false)
+  unfolding reachAt
+  ends-code r e =
+      let same : toldOf r ≡ toldWith (reachCode s) 0 = ap (λ (a : Reached). a .told) e in
+      (same, rw (ap (λ (t : Told). t .code) same) at (refusal-code r))
+
+  pub goes-code : (n : ℕ) → reachOf (Reach.Words n) ≡ reachAt s → (reachCode s ≡ 0) × (n ≡ lengthOf s)
+  unfolding reachAt
+  goes-code n e =
+      let zero : reachCode s ≡ 0 = sym (ap (λ (a : Reached). a .told .code) e) in
+      (zero, simp (eq-eqb (reachCode s) 0 zero) at (ap (λ (a : Reached). a .words) e))
+
+  pub read-ends : (r : Refusal) → reachOf (Reach.Ends r) ≡ reachAt s → refusedBy (toldOf r) ≡ readOf s
+  unfolding readOf
+  read-ends r e =
+      let code = ends-code r e in
+      ap refusedBy (code .0)
+      ∙ ends (ltb (length s) 8) (ltb (lengthOf s) 2 || ltb 32 (lengthOf s)) (ltb (length s) (lengthOf s * 4)) (wholeChecks s (lengthOf s))
+      (commandIn s (lengthOf s)) (code .1)
+
+  pub read-goes : (n : ℕ) → reachOf (Reach.Words n) ≡ reachAt s → readWhole s n ≡ readOf s
+  unfolding readOf readWhole
+  read-goes n e =
+      let at = goes-code n e in
+      rw (at .1, goes s (at .0))
+
+  pub goes-within : (n : ℕ) → reachOf (Reach.Words n) ≡ reachAt s → (2 ≤ n) × (n ≤ 32)
+  goes-within n e =
+      let at = goes-code n e in
+      let far = reaches s (at .0) in
+      omega (arith, at .1)
+
+  pub span-ends : (r : Refusal) → reachOf (Reach.Ends r) ≡ reachAt s → length s ≡ spanOf s
+  unfolding spanOf
+  span-ends r e = rw (ends-code r e .1)
+
+  pub span-goes : (n : ℕ) → reachOf (Reach.Words n) ≡ reachAt s → n * 4 ≡ spanOf s
+  unfolding spanOf
+  span-goes n e = rw (eq-eqb (reachCode s) 0 (goes-code n e .0), goes-code n e .1)

@@ -1,0 +1,31 @@
+// One command: the table of commands, the decoded form, judging, reading and writing.
+// A refusal of any of these is a `Refusal`, and `told_of` gives the code and parameter that go into a report.
+mod decoding;
+mod encoding;
+mod judging;
+mod kinds;
+mod table;
+
+pub use decoding::Reading;
+pub use decoding::read_command;
+pub use decoding::span;
+pub use encoding::Writing;
+pub use encoding::write_command;
+pub use judging::Judged;
+pub use judging::Refusal;
+pub use judging::Told;
+pub use judging::first_bad;
+pub use judging::judge;
+pub use judging::told_of;
+pub use kinds::Command;
+pub use kinds::Kind;
+pub use kinds::Parts;
+pub use kinds::kind_of;
+pub use kinds::parts_of;
+pub use table::FlagRule;
+pub use table::Form;
+pub use table::Found;
+pub use table::Layout;
+pub use table::Row;
+pub use table::row_of;
+pub use table::rule_of;

@@ -1,0 +1,233 @@
+// The table of commands: a row for each of the fifteen forms, and the way from an opcode to its form and length.
+ghost use mathlib.Core.Path.{_≡_};
+ghost use Rattle.wire.specs.Table.{rowOf, ruleOf};
+
+// The fifteen commands without their arguments, in the order of the table.
+pub enum Form {
+    ImgPwr,
+    ImgRegion,
+    ImgTrack,
+    TrkAlg,
+    TrkLoop,
+    ImgImage,
+    TrkGoal,
+    TlmFlush,
+    FlushAuto,
+    Open,
+    Close,
+    Run,
+    Wait,
+    Stop,
+    Clear,
+}
+
+// How the argument words are laid out: none; 8 bits and a pad; 16 bits and a pad; 16 bits twice; two singles.
+pub enum Layout {
+    Bare,
+    Byte,
+    Half,
+    Halves,
+    Singles,
+}
+
+// What the macro flag may be: either, never 1, always 1.
+pub enum FlagRule {
+    Either,
+    Never,
+    Always,
+}
+
+// One row. An argument that a form does not have is 0 and has the limits 0 and 0.
+pub struct Row {
+    pub opcode: u16,
+    pub words: u16,
+    pub layout: Layout,
+    pub flags: FlagRule,
+    pub low1: u32,
+    pub high1: u32,
+    pub low2: u32,
+    pub high2: u32,
+}
+
+// What an opcode stands for: a form and its length in words.
+pub enum Found {
+    Known(Form, u16),
+    Unknown,
+}
+
+const LAST_PIXEL: u32 = 1023;
+
+const LAST_MACRO: u32 = 7;
+
+const LONGEST_WAIT: u32 = 600;
+
+const ANY_HALF: u32 = 65535;
+// The bits of the largest single below 1024.
+const LAST_GOAL: u32 = 0x447f_ffff;
+
+fn row_with(
+    opcode: u16,
+    words: u16,
+    layout: Layout,
+    flags: FlagRule,
+    low1: u32,
+    high1: u32,
+    low2: u32,
+    high2: u32,
+) -> Row
+    ensures { λ r. ⌜ r ≡ Rattle.wire.specs.Table.rowWith opcode words layout flags low1 high1 low2 high2 ⌝ }
+{
+    Row {
+        opcode,
+        words,
+        layout,
+        flags,
+        low1,
+        high1,
+        low2,
+        high2,
+    }
+}
+
+pub fn row_of(form: Form) -> Row
+    ensures { λ r. ⌜ r ≡ rowOf form ⌝ }
+{
+    match form {
+        Form::ImgPwr => row_with(0x0114, 3, Layout::Byte, FlagRule::Either, 0, 1, 0, 0),
+        Form::ImgRegion => row_with(
+            0x0117,
+            3,
+            Layout::Halves,
+            FlagRule::Either,
+            0,
+            LAST_PIXEL,
+            0,
+            LAST_PIXEL,
+        ),
+        Form::ImgTrack => row_with(
+            0x0118,
+            3,
+            Layout::Halves,
+            FlagRule::Either,
+            0,
+            ANY_HALF,
+            1,
+            ANY_HALF,
+        ),
+        Form::TrkAlg => row_with(0x0148, 3, Layout::Byte, FlagRule::Either, 0, 2, 0, 0),
+        Form::TrkLoop => row_with(0x014b, 3, Layout::Byte, FlagRule::Either, 0, 1, 0, 0),
+        Form::ImgImage => row_with(
+            0x0150,
+            3,
+            Layout::Halves,
+            FlagRule::Either,
+            0,
+            ANY_HALF,
+            1,
+            ANY_HALF,
+        ),
+        Form::TrkGoal => row_with(
+            0x0153,
+            4,
+            Layout::Singles,
+            FlagRule::Either,
+            0,
+            LAST_GOAL,
+            0,
+            LAST_GOAL,
+        ),
+        Form::TlmFlush => row_with(0x015a, 2, Layout::Bare, FlagRule::Either, 0, 0, 0, 0),
+        Form::FlushAuto => row_with(0x015c, 3, Layout::Byte, FlagRule::Either, 0, 1, 0, 0),
+        Form::Open => row_with(
+            0x7f01,
+            3,
+            Layout::Byte,
+            FlagRule::Never,
+            0,
+            LAST_MACRO,
+            0,
+            0,
+        ),
+        Form::Close => row_with(0x7f02, 2, Layout::Bare, FlagRule::Never, 0, 0, 0, 0),
+        Form::Run => row_with(
+            0x7f03,
+            3,
+            Layout::Byte,
+            FlagRule::Either,
+            0,
+            LAST_MACRO,
+            0,
+            0,
+        ),
+        Form::Wait => row_with(
+            0x7f04,
+            3,
+            Layout::Half,
+            FlagRule::Always,
+            1,
+            LONGEST_WAIT,
+            0,
+            0,
+        ),
+        Form::Stop => row_with(0x7f05, 2, Layout::Bare, FlagRule::Never, 0, 0, 0, 0),
+        Form::Clear => row_with(0x7f06, 2, Layout::Bare, FlagRule::Never, 0, 0, 0, 0),
+    }
+}
+
+pub fn rule_of(opcode: u16) -> Found
+    ensures { λ r. ⌜ r ≡ ruleOf opcode ⌝ }
+{
+    if opcode == 0x0114 {
+        return Found::Known(Form::ImgPwr, 3);
+    }
+    if opcode == 0x0117 {
+        return Found::Known(Form::ImgRegion, 3);
+    }
+    if opcode == 0x0118 {
+        return Found::Known(Form::ImgTrack, 3);
+    }
+    if opcode == 0x0148 {
+        return Found::Known(Form::TrkAlg, 3);
+    }
+    if opcode == 0x014b {
+        return Found::Known(Form::TrkLoop, 3);
+    }
+    if opcode == 0x0150 {
+        return Found::Known(Form::ImgImage, 3);
+    }
+    if opcode == 0x0153 {
+        return Found::Known(Form::TrkGoal, 4);
+    }
+    if opcode == 0x015a {
+        return Found::Known(Form::TlmFlush, 2);
+    }
+    if opcode == 0x015c {
+        return Found::Known(Form::FlushAuto, 3);
+    }
+    macro_rule_of(opcode)
+}
+
+// The opcodes 0x7fxx.
+fn macro_rule_of(opcode: u16) -> Found
+    ensures { λ r. ⌜ r ≡ Rattle.wire.specs.Table.macroRuleOf opcode ⌝ }
+{
+    if opcode == 0x7f01 {
+        return Found::Known(Form::Open, 3);
+    }
+    if opcode == 0x7f02 {
+        return Found::Known(Form::Close, 2);
+    }
+    if opcode == 0x7f03 {
+        return Found::Known(Form::Run, 3);
+    }
+    if opcode == 0x7f04 {
+        return Found::Known(Form::Wait, 3);
+    }
+    if opcode == 0x7f05 {
+        return Found::Known(Form::Stop, 2);
+    }
+    if opcode == 0x7f06 {
+        return Found::Known(Form::Clear, 2);
+    }
+    Found::Unknown
+}

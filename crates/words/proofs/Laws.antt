@@ -1,0 +1,99 @@
+-- Laws of big-endian numbers: what a reader sees past the end, of a list that goes on, and of bytes that were written.
+use Prim.Native.Nat.{ℕ, suc, _+_, _*_, _/_, _%_, _-_, _≤_, _<_}
+use mathlib.Core.Path.{_≡_, refl, sym, ap, _∙_}
+use mathlib.Core.List.{List, [], _∷_, _++_, append-assoc, append-nil}
+use native.Mathlib.Omega.{arith}
+use native.Mathlib.Numerals.{add-one}
+use lib.ListN.{length, getD, take, drop, length-append, length-take, length-drop, take-append-drop, drop-of-length-le, List·getD-eq-default, List·getD-append}
+use lib.Seq.{take-suc, drop-append-le, take-append-seam, drop-append-seam, drop-drop, take-all, getD-take, getD-drop, take-at, drop-at, length-take-le}
+use borrow.Author.Tests.{le-leb, lt-leb}
+use borrow.Rule.Slice.PartMut.{putMid}
+use Rattle.words.specs.BigEndian.{byteAt, halfAt, wordAt, halfBytes, wordBytes, bytesOf, hasRoom, written}
+
+-- Past the end every number reads as 0.
+pub byte-past : (s : List ℕ) (i : ℕ) → length s ≤ i → byteAt s i ≡ 0
+byte-past s i h = List·getD-eq-default s 0 h
+
+pub half-past : (s : List ℕ) (i : ℕ) → length s ≤ i → halfAt s i ≡ 0
+half-past s i h = omega (arith, byte-past s i h, byte-past s (i + 1) (omega arith))
+
+pub word-past : (s : List ℕ) (i : ℕ) → length s ≤ i → wordAt s i ≡ 0
+word-past s i h = omega (arith, half-past s i h, half-past s (i + 2) (omega arith))
+
+-- A number that lies whole in a list is the same where the list goes on.
+pub byte-on : (s t : List ℕ) (i : ℕ) → i < length s → byteAt (s ++ t) i ≡ byteAt s i
+byte-on s t i h = List·getD-append s t 0 i h
+
+pub half-on : (s t : List ℕ) (i : ℕ) → i + 2 ≤ length s → halfAt (s ++ t) i ≡ halfAt s i
+half-on s t i h = rw (byte-on s t i (omega arith), byte-on s t (i + 1) (omega arith))
+
+pub word-on : (s t : List ℕ) (i : ℕ) → i + 4 ≤ length s → wordAt (s ++ t) i ≡ wordAt s i
+word-on s t i h = rw (half-on s t i (omega arith), half-on s t (i + 2) (omega arith))
+
+-- The bytes of n numbers are 4n.
+pub length-bytesOf : (ws : List ℕ) → length (bytesOf ws) ≡ 4 * length ws
+unfolding bytesOf
+length-bytesOf [] = refl
+length-bytesOf (w ∷ ws) = omega (arith, length-bytesOf ws)
+
+pub bytesOf-append : (vs ws : List ℕ) → bytesOf (vs ++ ws) ≡ bytesOf vs ++ bytesOf ws
+unfolding bytesOf
+bytesOf-append [] ws = refl
+bytesOf-append (v ∷ vs) ws = ap (λ l. wordBytes v ++ l) (bytesOf-append vs ws)
+
+-- A writer with room leaves its bytes and then the rest; one without leaves all as it was.
+pub with-room : (bytes room : List ℕ) → length bytes ≤ length room → written bytes room ≡ bytes ++ drop (length bytes) room
+with-room bytes room h = simp (le-leb _ _ h)
+
+pub no-room : (bytes room : List ℕ) → length room < length bytes → written bytes room ≡ room
+no-room bytes room h = simp (lt-leb _ _ h)
+
+-- What a writer does to the part of a room that begins at p, said of the whole room.
+pub part-written : (p : ℕ) (bytes room part : List ℕ) → p ≤ length room
+    → part ≡ written bytes (take (length room - p) (drop p room))
+    → putMid p (length room - p) room part ≡ take p room ++ written bytes (drop p room)
+part-written p bytes room part h e =
+    let whole : take (length room - p) (drop p room) ≡ drop p room = take-all (length room - p) (drop p room) (omega (arith, length-drop p room)) in
+    let none : drop (length room - p) (drop p room) ≡ [] = drop-of-length-le (drop p room) {i = length room - p} (omega (arith, length-drop p room)) in
+    rw (e, whole, none, append-nil)
+
+-- The first i numbers at the front, and the rest of the room behind them, are as long as the room.
+pub whole : (ws room : List ℕ) (i : ℕ) → i ≤ length ws → length ws * 4 ≤ length room → length (bytesOf (take i ws) ++ drop (i * 4) room) ≡ length room
+whole ws room i h f =
+    length-append (bytesOf (take i ws)) _
+    ∙ omega (arith, length-bytesOf (take i ws), length-take-le i ws h, length-drop (i * 4) room)
+
+-- One turn of a writer of several numbers: the first i stand at the front, and the next one is written behind them.
+module _ (ws room₀ room part : List ℕ) (i : ℕ) (more : i < length ws) (fits : length ws * 4 ≤ length room₀)
+    (front : room ≡ bytesOf (take i ws) ++ drop (i * 4) room₀)
+    (put : part ≡ written (wordBytes (getD ws i 0)) (take (length room - i * 4) (drop (i * 4) room))) where
+  length-front : length (bytesOf (take i ws)) ≡ i * 4
+  length-front = omega (arith, length-bytesOf (take i ws), length-take-le i ws (omega arith))
+
+  length-kept : length room ≡ length room₀
+  length-kept = ap length front ∙ whole ws room₀ i (omega arith) fits
+
+  next-word : bytesOf (take (i + 1) ws) ≡ bytesOf (take i ws) ++ wordBytes (getD ws i 0)
+  unfolding bytesOf
+  next-word = rw (add-one, take-suc ws i 0 more, bytesOf-append)
+
+  pub turn : putMid (i * 4) (length room - i * 4) room part ≡ bytesOf (take (i + 1) ws) ++ drop ((i + 1) * 4) room₀
+  turn =
+      part-written (i * 4) (wordBytes (getD ws i 0)) room part (omega (arith, length-kept)) put
+      ∙ rw (
+        front,
+        take-at (bytesOf (take i ws)) (drop (i * 4) room₀) (i * 4) length-front,
+        drop-at (bytesOf (take i ws)) (drop (i * 4) room₀) (i * 4) length-front,
+        with-room (wordBytes (getD ws i 0)) (drop (i * 4) room₀) (omega (arith, length-drop (i * 4) room₀)),
+        next-word,
+        drop-drop,
+        append-assoc,
+      )
+      (ap (λ n. bytesOf (take i ws) ++ (wordBytes (getD ws i 0) ++ drop n room₀)) (places i))
+    where
+      places : (i : ℕ) → i * 4 + 4 ≡ (i + 1) * 4
+      places i = omega arith
+
+-- What can be taken back is told apart: where a function has a left inverse, equal values come from equal arguments.
+pub one-to-one : {A B : Type 0} (f : A → B) (g : B → A) → ((a : A) → g (f a) ≡ a) → (a b : A) → f a ≡ f b → a ≡ b
+one-to-one f g back a b e = sym (back a) ∙ ap g e ∙ back b

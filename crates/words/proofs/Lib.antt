@@ -1,0 +1,2 @@
+-- Laws of big-endian numbers that the crates above cite too.
+pub mod Laws

@@ -1,0 +1,2 @@
+-- Numbers as bytes, highest byte first.
+pub mod BigEndian

@@ -1,0 +1,75 @@
+// Big-endian numbers of 16 and 32 bits in byte slices: total readers, and writers into the front of a lent part.
+// A reader takes what lies past the end for 0. A writer that has too little room leaves it untouched and says so.
+ghost use Prim.Native.Nat.{_+_, _*_};
+ghost use mathlib.Core.Path.{_≡_};
+ghost use Rattle.words.specs.BigEndian.{byteAt, halfAt, wordAt, wordBytes, bytesOf, hasRoom, written};
+
+// The bytes of a 32-bit number.
+pub const WORD: usize = 4;
+
+// The byte at a place.
+pub fn byte_at(s: &[u8], at: usize) -> u8
+    ensures { λ r. ⌜ r ≡ byteAt (now (s .entry)) at ⌝ }
+{
+    if at < s.len() { s[at] } else { 0 }
+}
+
+// Two bytes as one number.
+fn joined(high: u8, low: u8) -> u16
+    ensures { λ r. ⌜ r ≡ high * 256 + low ⌝ }
+{
+    (high as u16) * 256 + (low as u16)
+}
+
+// The 16-bit number that begins at a place.
+pub fn half_at(s: &[u8], at: usize) -> u16
+    ensures { λ r. ⌜ r ≡ halfAt (now (s .entry)) at ⌝ }
+{
+    if at < s.len() {
+        joined(byte_at(s, at), byte_at(s, at + 1))
+    } else {
+        0
+    }
+}
+
+// The 32-bit number that begins at a place.
+pub fn word_at(s: &[u8], at: usize) -> u32
+    ensures { λ r. ⌜ r ≡ wordAt (now (s .entry)) at ⌝ }
+{
+    if at < s.len() {
+        (half_at(s, at) as u32) * 65536 + (half_at(s, at + 2) as u32)
+    } else {
+        0
+    }
+}
+
+// Writes a 32-bit number at the front of a room.
+pub fn put_word(room: &mut [u8], value: u32) -> bool
+    ensures { λ r. ⌜ r ≡ hasRoom (wordBytes value) (now (room .entry)) ⌝ }
+    ensures { λ r. ⌜ now (room .exit) ≡ written (wordBytes value) (now (room .entry)) ⌝ }
+{
+    if room.len() < WORD {
+        return false;
+    }
+    room[0] = (value / 65536 / 256) as u8;
+    room[1] = (value / 65536 % 256) as u8;
+    room[2] = (value % 65536 / 256) as u8;
+    room[3] = (value % 65536 % 256) as u8;
+    true
+}
+
+// Writes several 32-bit numbers, one after another, at the front of a room.
+pub fn put_words(room: &mut [u8], values: &[u32]) -> bool
+    ensures { λ r. ⌜ r ≡ hasRoom (bytesOf (now (values .entry))) (now (room .entry)) ⌝ }
+    ensures { λ r. ⌜ now (room .exit) ≡ written (bytesOf (now (values .entry))) (now (room .entry)) ⌝ }
+{
+    if room.len() / WORD < values.len() {
+        return false;
+    }
+    let mut i = 0;
+    while i < values.len() {
+        put_word(&mut room[i * WORD..], values[i]);
+        i += 1;
+    }
+    true
+}
