@@ -1,9 +1,10 @@
-# make run: proves and builds what the sample needs and shows its output. make test: every proof, every must-fail edit, every program.
+# make run: proves and builds what the list program needs, then shows the report for the sample pupil's list.
+# make test: every proof, every must-fail edit, every program. Its last line is the gate's own, `N passed, 0 failed`.
 .PHONY: run test
 
 run:
-	@./run
+	rt check list
+	@tools/sample
 
-# The gate's own line, `N passed, 0 failed`, comes last.
 test:
 	rt ci

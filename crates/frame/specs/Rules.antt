@@ -1,7 +1,7 @@
 -- 01, "The reader demands": one definition to a rule on the fields of a frame, and all of them together. A bench is sound only where its
 -- own fields obey them too.
 use Prim.Native.Nat.{ℕ, _/_, _%_, _^_}
-use mathlib.Core.Bool.{Bool, true, false, not, _&&_, _||_, Bool·beq}
+use mathlib.Core.Bool.{Bool, not, _&&_, _||_, Bool·beq}
 use lib.Dec.{leb, ltb, eqb}
 use Rattle.wire.specs.declared.table.Form.{Form}
 use Rattle.wire.specs.Judge.{badOf}

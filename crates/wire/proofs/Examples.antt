@@ -1,15 +1,14 @@
 -- 01, "Examples on each side of a line": the starred cases of single commands, read and written by the meanings.
 use Prim.Native.Nat.{ℕ}
 use mathlib.Core.Path.{_≡_, refl}
-use mathlib.Core.List.{List, [], _∷_, _++_}
+use mathlib.Core.List.{List, [], _∷_}
 use mathlib.Core.Bool.{Bool, true, false}
 use lib.Ieee.{binary32, ofBits, toBits}
 use Rattle.words.specs.BigEndian.{bytesOf}
-use Rattle.wire.specs.declared.kinds.Command.{Command}
 use Rattle.wire.specs.declared.kinds.Kind.{Kind}
-use Rattle.wire.specs.Judge.{toldWith, judgeCode, judged, badIn}
-use Rattle.wire.specs.Read.{Answer, answerFor, readOf, readCode, spanOf, sumOf}
-use Rattle.wire.specs.Write.{commandBytes, closed}
+use Rattle.wire.specs.Judge.{toldWith, judgeCode}
+use Rattle.wire.specs.Read.{readOf, sumOf}
+use Rattle.wire.specs.Write.{commandBytes}
 
 -- The bytes are read as this command, and it is written as these bytes.
 abbrev Says : List ℕ → Bool → Kind → Type 0

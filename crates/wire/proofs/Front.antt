@@ -7,7 +7,7 @@ use mathlib.Core.Bool.{Bool, true, false}
 use native.Mathlib.Nat.{add-assoc, add-zero}
 use native.Mathlib.Omega.{arith}
 use lib.ListN.{length, getD, take, drop, length-append, length-drop, take-append-drop}
-use lib.Seq.{take-add, length-take-le, getD-drop, getD-append-add, getD-append-seam}
+use lib.Seq.{take-add, length-take-le, getD-drop, getD-append-seam}
 use lib.Dec.{leb}
 use borrow.Author.Tests.{le-leb, lt-leb, leb-true, leb-false}
 use Rattle.words.specs.BigEndian.{byteAt, halfAt, wordAt, wordBytes, bytesOf}
@@ -15,24 +15,7 @@ use Rattle.words.proofs.Laws.{length-bytesOf, bytesOf-append}
 use Rattle.wire.specs.Read.{sumOf}
 use Rattle.wire.specs.Write.{headOf, closed}
 use Rattle.wire.proofs.Local.{sum-on}
-
--- A number behind some bytes is read from there.
-half-behind : (xs t : List ℕ) (n i : ℕ) → length xs ≡ n → halfAt (xs ++ t) (n + i) ≡ halfAt t i
-half-behind xs t n i e = rw (← e, add-assoc, getD-append-add xs t i 0, getD-append-add xs t (i + 1) 0)
-
-word-behind : (xs t : List ℕ) (n i : ℕ) → length xs ≡ n → wordAt (xs ++ t) (n + i) ≡ wordAt t i
-word-behind xs t n i e = rw (half-behind xs t n i e, add-assoc n i 2, half-behind xs t n (i + 2) e)
-
--- The words that were written are read back, each at its place.
-pub word-of : (ws t : List ℕ) (k : ℕ) → k < length ws → wordAt (bytesOf ws ++ t) (k * 4) ≡ getD ws k 0
-unfolding bytesOf
-word-of [] t k h = absurd (omega arith)
-word-of (w ∷ ws) t zero h = omega arith
-word-of (w ∷ ws) t (suc k) h =
-    ap (wordAt (bytesOf (w ∷ ws) ++ t)) (places k) ∙ word-behind (wordBytes w) (bytesOf ws ++ t) 4 (k * 4) refl ∙ word-of ws t k (omega arith)
-  where
-    places : (k : ℕ) → suc k * 4 ≡ 4 + k * 4
-    places k = omega arith
+use Rattle.wire.proofs.Sums.{word-back}
 
 -- The first word's halves.
 pub high-half : (w : ℕ) (ws t : List ℕ) → halfAt (bytesOf (w ∷ ws) ++ t) 0 ≡ w / 65536
@@ -71,11 +54,6 @@ pub closed-summed : (ws : List ℕ) → closed ws ≡ bytesOf (summed ws)
 unfolding closed bytesOf
 closed-summed ws = sym (bytesOf-append ws (sumOf (bytesOf ws) (length ws) ∷ []))
 
-pub length-closed : (ws : List ℕ) → length (closed ws) ≡ length ws * 4 + 4
-length-closed ws =
-    ap length (closed-summed ws) ∙ length-bytesOf (summed ws)
-    ∙ omega (arith, length-append ws (sumOf (bytesOf ws) (length ws) ∷ []))
-
 -- The last word of what was written is the sum of those before it.
 pub sum-closed : (ws t : List ℕ) → sumOf (closed ws ++ t) (length ws) ≡ wordAt (closed ws ++ t) (length ws * 4)
 unfolding closed
@@ -86,7 +64,7 @@ sum-closed ws t =
     ∙ sum-on (bytesOf ws) (wordBytes sum ++ t) (length ws) (omega (arith, length-bytesOf ws)) in
     let last : wordAt (closed ws ++ t) (length ws * 4) ≡ sum =
     ap (λ l. wordAt (l ++ t) (length ws * 4)) (closed-summed ws)
-    ∙ word-of (summed ws) t (length ws) (omega (arith, length-append ws (sum ∷ [])))
+    ∙ word-back (summed ws) t (length ws) (omega (arith, length-append ws (sum ∷ [])))
     ∙ getD-append-seam ws sum [] 0 in
     before ∙ sym last
 

@@ -29,8 +29,10 @@ use Rattle.wire.specs.Write.{headOf, packedOf, closed, wordsOf, commandB
 use Rattle.wire.proofs.Order.{NoneDue, none-due, read-order, judge-order}
 use Rattle.wire.proofs.Answers.{Reaches, reaches, sum-passed, length-passed, pad-passed}
 use Rattle.wire.proofs.Local.{read-whole, span-whole, reached}
-use Rattle.wire.proofs.Front.{Bytes, word-of, high-half, low-half, opcode-back, flag-back, length-back, head-made, closed-summed, length-closed}
+use Rattle.wire.proofs.Front.{Bytes, high-half, low-half, opcode-back, flag-back, length-back, head-made, closed-summed}
 use Rattle.wire.proofs.Front.{sum-closed, frontWords, closed-front}
+use Rattle.wire.proofs.Sums.{word-back}
+use Rattle.wire.proofs.Lengths.{few-words, length-closed}
 use Rattle.wire.proofs.Layouts.{argWords, length-packed, form-words, form-found, found-form, Within, fields-packed, packed-fields, BitsIn}
 use Rattle.wire.proofs.Layouts.{fields-within, goal-bits, parts-kind}
 
@@ -109,24 +111,16 @@ kind-held Form.Wait first second = omega arith
 kind-held Form.Stop first second = tt
 kind-held Form.Clear first second = tt
 
--- No layout has more than two argument words.
-few-words : (layout : Layout) → argWords layout ≤ 2
-few-words Layout.Bare = omega arith
-few-words Layout.Byte = omega arith
-few-words Layout.Half = omega arith
-few-words Layout.Halves = omega arith
-few-words Layout.Singles = omega arith
-
 -- The argument words that were written are those that the reader takes, where there are any.
 arg-one : (w : ℕ) (ps us t : List ℕ) → getD ps 0 (wordAt (bytesOf (w ∷ (ps ++ us)) ++ t) 4) ≡ wordAt (bytesOf (w ∷ (ps ++ us)) ++ t) 4
 arg-one w [] us t = refl
-arg-one w (p ∷ ps) us t = sym (word-of (w ∷ p ∷ (ps ++ us)) t 1 (omega arith))
+arg-one w (p ∷ ps) us t = sym (word-back (w ∷ p ∷ (ps ++ us)) t 1 (omega arith))
 
 arg-two : (w : ℕ) (ps us t : List ℕ) (n : ℕ) → n ≡ length ps + 2
     → getD ps 1 (thirdWord (bytesOf (w ∷ (ps ++ us)) ++ t) n) ≡ thirdWord (bytesOf (w ∷ (ps ++ us)) ++ t) n
 arg-two w [] us t n e = refl
 arg-two w (p ∷ []) us t n e = refl
-arg-two w (p ∷ q ∷ ps) us t n e = rw (le-ltb n 4 (omega arith)) (sym (word-of (w ∷ p ∷ q ∷ (ps ++ us)) t 2 (omega arith)))
+arg-two w (p ∷ q ∷ ps) us t n e = rw (le-ltb n 4 (omega arith)) (sym (word-back (w ∷ p ∷ q ∷ (ps ++ us)) t 2 (omega arith)))
 
 abbrev commandWith : Bool → Kind → Command
 commandWith flag kind = record { flag = flag; kind = kind }

@@ -1,5 +1,5 @@
 -- 01, "What each promise answers for": two results that one promise allows are equal. The numbers and values that 01 gives to an answer say which it was.
-use mathlib.Core.Path.{_≡_, refl, sym, ap, _∙_}
+use mathlib.Core.Path.{_≡_, refl, ap}
 use mathlib.Core.List.{[], _∷_}
 use mathlib.Core.Bool.{cond}
 use lib.Dec.{eqb}

@@ -1,33 +1,17 @@
 -- Writing a command in two steps: refused by rows 8 to 10, or else decided by the room.
-use Prim.Native.Nat.{ℕ, _<_}
+use Prim.Native.Nat.{ℕ}
 use mathlib.Core.Path.{_≡_, refl, ap}
 use mathlib.Core.List.{List, [], _∷_}
 use mathlib.Core.Bool.{Bool, true, false, cond, not}
 use native.Mathlib.Omega.{arith}
 use lib.Dec.{eqb}
 use lib.ListN.{length}
-use borrow.Author.Tests.{ne-eqb}
 use Rattle.words.specs.BigEndian.{hasRoom, written}
 use Rattle.wire.specs.declared.kinds.Command.{Command}
-use Rattle.wire.specs.declared.judging.Refusal.{Refusal}
 use Rattle.wire.specs.Codes.{_when_}
-use Rattle.wire.specs.Judge.{toldWith, toldOf, argChecks, judgeCode, parFor, judged}
+use Rattle.wire.specs.Judge.{toldWith, argChecks, judgeCode, parFor, judged}
 use Rattle.wire.specs.Write.{commandBytes, wroteAllowed, writeCode, wroteAt, roomAfter}
 use Rattle.wire.proofs.FirstOf.{first-append}
-
--- No refusal has code 0.
-pub refusal-code : (refusal : Refusal) → 0 < toldOf refusal .code
-refusal-code Refusal.TooFewBytes = omega arith
-refusal-code Refusal.LengthOutOfBounds = omega arith
-refusal-code Refusal.CutOff = omega arith
-refusal-code Refusal.SumDiffers = omega arith
-refusal-code Refusal.UnknownOpcode = omega arith
-refusal-code Refusal.WrongLength = omega arith
-refusal-code Refusal.PadNotZero = omega arith
-refusal-code (Refusal.OutOfRange par) = omega arith
-refusal-code Refusal.FlagForbidden = omega arith
-refusal-code Refusal.FlagMissing = omega arith
-refusal-code Refusal.NoRoom = omega arith
 
 module _ (c : Command) (room : List ℕ) where
   -- The code of the whole, and answer and room by that code.
@@ -45,9 +29,8 @@ module _ (c : Command) (room : List ℕ) where
   room-at code e = ap (λ n. cond (eqb n 0) (written (commandBytes c) room) room) e
 
   -- A command that rows 8 to 10 refuse is not written.
-  pub refused : 0 < judgeCode c → (record { told = judged c; bytes = 0 } ≡ wroteAt c room) × (room ≡ roomAfter c room)
-  refused h =
-      let late : eqb (judgeCode c) 0 ≡ false = ne-eqb (judgeCode c) 0 (λ z. omega arith) in
+  pub refused : eqb (judgeCode c) 0 ≡ false → (record { told = judged c; bytes = 0 } ≡ wroteAt c room) × (room ≡ roomAfter c room)
+  refused late =
       let code : writeCode c room ≡ judgeCode c = rw (code-is, late) in
       rw (answer-at (judgeCode c) code, room-at (judgeCode c) code, late) (refl, refl)
 

@@ -1,6 +1,6 @@
 -- A decoded command as a form and two numbers: 01, "one kind out of fifteen with its own arguments".
 use Prim.Native.Nat.{ℕ, _%_}
-use lib.Ieee.{Float, binary32, ofBits, toBits}
+use lib.Ieee.{binary32, ofBits, toBits}
 use Rattle.wire.specs.declared.table.Form.{Form}
 use Rattle.wire.specs.declared.kinds.Kind.{Kind}
 use Rattle.wire.specs.declared.kinds.Parts.{Parts}

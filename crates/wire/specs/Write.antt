@@ -5,9 +5,7 @@ use mathlib.Core.Bool.{Bool, true, false, cond, not}
 use lib.ListN.{length}
 use lib.Dec.{eqb}
 use Rattle.words.specs.BigEndian.{wordBytes, bytesOf, hasRoom, written}
-use Rattle.wire.specs.declared.table.Form.{Form}
 use Rattle.wire.specs.declared.table.Layout.{Layout}
-use Rattle.wire.specs.declared.table.Row.{Row}
 use Rattle.wire.specs.declared.kinds.Command.{Command}
 use Rattle.wire.specs.declared.judging.Told.{Told}
 use Rattle.wire.specs.declared.encoding.Writing.{Writing}

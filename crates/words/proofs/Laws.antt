@@ -1,14 +1,14 @@
 -- Laws of big-endian numbers: what a reader sees past the end, of a list that goes on, and of bytes that were written.
-use Prim.Native.Nat.{ℕ, suc, _+_, _*_, _/_, _%_, _-_, _≤_, _<_}
+use Prim.Native.Nat.{ℕ, _+_, _*_, _-_, _≤_, _<_}
 use mathlib.Core.Path.{_≡_, refl, sym, ap, _∙_}
 use mathlib.Core.List.{List, [], _∷_, _++_, append-assoc, append-nil}
 use native.Mathlib.Omega.{arith}
 use native.Mathlib.Numerals.{add-one}
-use lib.ListN.{length, getD, take, drop, length-append, length-take, length-drop, take-append-drop, drop-of-length-le, List·getD-eq-default, List·getD-append}
-use lib.Seq.{take-suc, drop-append-le, take-append-seam, drop-append-seam, drop-drop, take-all, getD-take, getD-drop, take-at, drop-at, length-take-le}
+use lib.ListN.{length, getD, take, drop, length-append, length-take, length-drop, drop-of-length-le, List·getD-eq-default, List·getD-append}
+use lib.Seq.{take-suc, drop-drop, take-all, take-at, drop-at, length-take-le}
 use borrow.Author.Tests.{le-leb, lt-leb}
 use borrow.Rule.Slice.PartMut.{putMid}
-use Rattle.words.specs.BigEndian.{byteAt, halfAt, wordAt, halfBytes, wordBytes, bytesOf, hasRoom, written}
+use Rattle.words.specs.BigEndian.{byteAt, halfAt, wordAt, wordBytes, bytesOf, written}
 
 -- Past the end every number reads as 0.
 pub byte-past : (s : List ℕ) (i : ℕ) → length s ≤ i → byteAt s i ≡ 0

@@ -1,3 +1,4 @@
+-- `words::put_words` meets its contract. The invariant: the first i numbers stand at the front of the room, and the rest is as it was.
 use Prim.Native.Nat.{ℕ, _+_, _*_, _-_, _≤_, _<_}
 use mathlib.Core.Path.{_≡_, refl, sym, ap, _∙_}
 use mathlib.Core.List.{List, _++_}
@@ -10,9 +11,6 @@ use Rattle.words.specs.BigEndian.{bytesOf}
 use Rattle.words.proofs.Laws.{length-bytesOf, with-room, no-room, turn, whole}
 use Rattle.words.proofs.put_words.Statement.{statement}
 use Rattle.words.proofs.put_words.Tie as tie
-use Rattle.words.proofs.put_words.Reads as reads
-use Rattle.words.proofs.put_words.Lts as lts
-use Rattle.words.proofs.put_word.Reads as put-word-reads
 
 -- The first i numbers stand at the front of the room, and the rest of it is as it was.
 record Front (ws room₀ room : List ℕ) (i : ℕ) : Type 0 where
@@ -27,7 +25,6 @@ Inv-loop room₀ values i₀ room i = Front values room₀ room i
 abbrev μ-loop : tie.MeasureT-loop
 μ-loop room₀ values i₀ room i = length values - i
 
--- src/lib.rt:67:9
 returns : tie.Need-returns Inv-loop μ-loop
 returns c =
     let room = c .before .before .before .args .room .now in
@@ -35,49 +32,38 @@ returns c =
     let short : length room < length (bytesOf values) = omega (arith, length-bytesOf values) in
     (sym (lt-leb (length (bytesOf values)) (length room) short), sym (no-room (bytesOf values) room short))
 
--- src/lib.rt:70:5
 loop-holds : tie.Need-loop-holds Inv-loop μ-loop
 unfolding bytesOf
 loop-holds c =
     record { within = omega arith; fits = omega arith; same = refl; front = refl }
 
--- src/lib.rt:71:28
 mul-put-word : tie.Need-mul-put-word Inv-loop μ-loop
 mul-put-word c = search needs
 
--- src/lib.rt:71:18
 sub-put-word : tie.Need-sub-put-word Inv-loop μ-loop
 sub-put-word c = search needs
 
--- src/lib.rt:71:18
 part-put-word-start : tie.Need-part-put-word-start Inv-loop μ-loop
 part-put-word-start c = search needs
 
--- src/lib.rt:71:18
 part-put-word-end : tie.Need-part-put-word-end Inv-loop μ-loop
 part-put-word-end c = search needs
 
--- src/lib.rt:71:41
 mul-put-word-2 : tie.Need-mul-put-word-2 Inv-loop μ-loop
 mul-put-word-2 c = search needs
 
--- src/lib.rt:71:41
 shared-slice-read-put-word : tie.Need-shared-slice-read-put-word Inv-loop μ-loop
 shared-slice-read-put-word c = search needs
 
--- src/lib.rt:71:9
 put-word-requires : tie.Need-put-word-requires Inv-loop μ-loop
 put-word-requires c κs = search needs
 
--- src/lib.rt:72:9
 add-i : tie.Need-add-i Inv-loop μ-loop
 add-i c = search needs
 
--- src/lib.rt:70:5
 loop-less : tie.Need-loop-less Inv-loop μ-loop
 loop-less c = search needs
 
--- src/lib.rt:70:5
 loop-again : tie.Need-loop-again Inv-loop μ-loop
 loop-again c =
     let at = c .before .before .before .before .before .before .loop in
@@ -91,11 +77,9 @@ loop-again c =
       front = next;
     }
 
--- src/lib.rt:62:1
 same-length : tie.Need-same-length Inv-loop μ-loop
 same-length c = search needs
 
--- src/lib.rt:62:1
 returns-2 : tie.Need-returns-2 Inv-loop μ-loop
 returns-2 c =
     let start = c .before .before .before .before .before .args in

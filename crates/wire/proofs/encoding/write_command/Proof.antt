@@ -1,7 +1,7 @@
 -- `wire::encoding::write_command` meets its contract: a refusal of `judge` is handed on, and else the room decides.
 use mathlib.Core.Path.{ap, _∙_}
-use native.Mathlib.Omega.{arith}
-use Rattle.wire.proofs.Writes.{refusal-code, refused, allowed}
+use Rattle.wire.proofs.Answers.{refusal-code}
+use Rattle.wire.proofs.Writes.{refused, allowed}
 use borrow.Author.Needs.{needs}
 use Rattle.wire.proofs.encoding.write_command.Statement.{statement}
 use Rattle.wire.proofs.encoding.write_command.Tie as tie
@@ -23,7 +23,7 @@ returns c =
     let args = c .before .before .before .before .before .args in
     let told = rw (c .before .refusal .given .1) at (c .before .before .before .judge .ensures) in
     let code = refusal-code (c .before .refusal .given .0 .0) in
-    rw told (refused (args .command) (args .room .now) (omega (arith, code, ap (λ t. t .code) told)))
+    rw told (refused (args .command) (args .room .now) (rw (ap (λ t. t .code) told) at code))
 
 same-length : tie.Need-same-length
 same-length c = search needs

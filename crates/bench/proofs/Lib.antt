@@ -1,0 +1,17 @@
+-- Laws of the bench, in two groups: what a reader wants to know (`Demands` is the file to open first; `Cases` has 01's starred examples,
+-- `Report` what a moderator asks of the records), and the laws behind those and behind single functions.
+pub mod Demands
+pub mod Cases
+pub mod Report
+pub mod Slips
+pub mod Unique
+pub mod UniqueRun
+pub mod Rows
+pub mod Camera
+pub mod Sound
+pub mod MacroRun
+pub mod Outcomes
+pub mod Own
+mod Judging
+mod Listing
+mod TwoLists

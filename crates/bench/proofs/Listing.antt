@@ -1,0 +1,145 @@
+-- One list carried out command by command, as the code does it: what is left of the list, carried out from here, gives what the whole list gives from
+-- its start. Three laws: the start of a walk, a turn of it, and its end.
+use Prim.Native.Nat.{ℕ, _+_, _*_, _-_, _≤_, _<_}
+use mathlib.Core.Path.{_≡_, refl, sym, ap, _∙_}
+use mathlib.Core.List.{List, [], _∷_, _++_, append-assoc}
+use native.Mathlib.Omega.{arith}
+use lib.ListN.{length, take, drop, length-append, length-drop, take-append-drop, drop-of-length-le}
+use lib.Seq.{length-take-le, take-append-le, drop-append-le, take-at, drop-at, drop-drop}
+use borrow.Rule.Slice.PartMut.{putMid}
+use Rattle.words.specs.BigEndian.{written}
+use Rattle.words.proofs.Laws.{with-room, part-written}
+use Rattle.wire.specs.declared.judging.Told.{Told}
+use Rattle.wire.specs.Read.{spanOf}
+use Rattle.walk.specs.Walk.{rests}
+use Rattle.walk.proofs.Rests.{rests-none, rests-more}
+use Rattle.walk.proofs.Turns.{from-place, CommandAt, command-at}
+use Rattle.report.specs.Record.{recordBytes}
+use Rattle.bench.specs.declared.Bench.{Bench}
+use Rattle.bench.specs.Carry.{Outcome, taken}
+use Rattle.bench.specs.Run.{Listed, runRests, runList}
+
+-- Bytes that are written in two goes, the others behind the first, are written as one.
+pub written-both : (xs ys room : List ℕ) → length xs + length ys ≤ length room → written (xs ++ ys) room ≡ xs ++ written ys (drop (length xs) room)
+written-both xs ys room fits =
+    with-room (xs ++ ys) room (omega (arith, length-append xs ys))
+    ∙ rw (with-room ys (drop (length xs) room) (omega (arith, length-drop (length xs) room)), drop-drop, length-append, append-assoc)
+
+-- Eight bytes of a list that goes on.
+pub eight-within : (xs ys : List ℕ) (n : ℕ) → n + 8 ≤ length xs → take 8 (drop n (xs ++ ys)) ≡ take 8 (drop n xs)
+eight-within xs ys n fits =
+    ap (take 8) (drop-append-le n xs ys (omega arith)) ∙ take-append-le 8 (drop n xs) ys (omega (arith, length-drop n xs))
+
+-- The records of so many commands take 8 bytes each.
+pub records-long : (b : Bench) (sender number : ℕ) (rs : List (List ℕ)) → length (runRests b sender number rs .records) ≡ 8 * length rs
+unfolding runRests
+records-long b sender number [] = refl
+records-long b sender number (r ∷ rs) = omega (arith, records-long (taken b r .bench) sender (number + 1) rs)
+
+-- What the commands from a place of a list on leave, the first of them with number n + 1.
+abbrev pub onward : Bench → ℕ → List ℕ → ℕ → ℕ → Listed
+onward b sender list at n = runRests b sender (n + 1) (rests (drop at list))
+
+-- Behind the first n commands of a list, which end at a place of it, with their records at the front of the room.
+pub record Behind (b₀ : Bench) (sender : ℕ) (list room₀ room : List ℕ) (b : Bench) (at n : ℕ) : Type 0 where
+  pub within : at ≤ length list
+  pub same : length room ≡ length room₀
+  pub counted : n + length (rests (drop at list)) ≡ length (rests list)
+  pub state : onward b sender list at n .bench ≡ runList b₀ sender list .bench
+  pub records :
+      take (n * 8) room ++ written (onward b sender list at n .records) (drop (n * 8) room) ≡ written (runList b₀ sender list .records) room₀
+
+pub start : (b : Bench) (sender : ℕ) (list room : List ℕ) → Behind b sender list room room b 0 0
+start b sender list room = record { within = omega arith; same = refl; counted = omega arith; state = refl; records = refl }
+
+-- Where bytes are left there is a command.
+pub more-rests : (list : List ℕ) (at : ℕ) → at < length list → 0 < length (rests (drop at list))
+more-rests list at more = rw (rests-more (drop at list) (omega (arith, length-drop at list))) (omega arith)
+
+module _ (b₀ : Bench) (sender : ℕ) (list room₀ room : List ℕ) (b : Bench) (at n : ℕ) (behind : Behind b₀ sender list room₀ room b at n) where
+  -- A turn: the command at the place is taken, its record put behind the others, and the next place lies behind it.
+  module _ (fits : length (rests list) * 8 ≤ length room₀) (more : at < length list) (outcome : Outcome) (told : Told) (part : List ℕ) (span : ℕ)
+      (took : outcome ≡ taken b (take (length list - at) (drop at list)))
+      (tells : told ≡ outcome .told)
+      (put : part ≡ written (recordBytes sender (told .code) (told .par) (n + 1)) (take (length room - n * 8) (drop (n * 8) room)))
+      (spans : span ≡ spanOf (take (length list - at) (drop at list))) where
+    here : CommandAt list at span
+    here = command-at list at span more spans
+
+    one : rests (drop at list) ≡ drop at list ∷ rests (drop (at + span) list)
+    one =
+        rests-more (drop at list) (omega (arith, length-drop at list))
+        ∙ rw (← here .own, drop-drop)
+
+    abbrev later : Listed
+    later = onward (outcome .bench) sender list (at + span) (n + 1)
+
+    abbrev own : List ℕ
+    own = recordBytes sender (told .code) (told .par) (n + 1)
+
+    split : onward b sender list at n ≡ record { bench = later .bench; records = own ++ later .records }
+    unfolding runRests
+    split = rw (one, tells, took, from-place list at)
+
+    size : n * 8 + 8 + 8 * length (rests (drop (at + span) list)) ≤ length room
+    size = omega (arith, ap length one)
+
+    kept : length (take (n * 8) room) ≡ n * 8
+    kept = length-take-le (n * 8) room (omega (arith, size))
+
+    front : length (take (n * 8) room ++ own) ≡ (n + 1) * 8
+    front = omega (arith, length-append (take (n * 8) room) own, kept)
+
+    abbrev beyond : List ℕ
+    beyond = drop 8 (drop (n * 8) room)
+
+    placed : putMid (n * 8) (length room - n * 8) room part ≡ (take (n * 8) room ++ own) ++ beyond
+    placed =
+        part-written (n * 8) own room part (omega (arith, size)) put
+        ∙ ap (λ l. take (n * 8) room ++ l) (with-room own (drop (n * 8) room) (omega (arith, size, length-drop (n * 8) room)))
+        ∙ sym (append-assoc (take (n * 8) room) own beyond)
+
+    all-written : written (own ++ later .records) (drop (n * 8) room) ≡ own ++ written (later .records) beyond
+    all-written =
+        let long = records-long (outcome .bench) sender (n + 1 + 1) (rests (drop (at + span) list)) in
+        written-both own (later .records) (drop (n * 8) room) (omega (arith, size, length-drop (n * 8) room))
+
+    pub turn : Behind b₀ sender list room₀ (putMid (n * 8) (length room - n * 8) room part) (outcome .bench) (at + span) (n + 1)
+    turn =
+        let whole : length (putMid (n * 8) (length room - n * 8) room part) ≡ length room =
+        ap length placed ∙ length-append (take (n * 8) room ++ own) beyond
+        ∙ omega (arith, front, size, length-drop (n * 8) room, length-drop 8 (drop (n * 8) room)) in
+        record {
+          within = here .ends;
+          same = whole ∙ behind .same;
+          counted = omega (arith, ap length one);
+          state = ap (λ (l : Listed). l .bench) (sym split) ∙ behind .state;
+          records =
+              rw (placed, take-at (take (n * 8) room ++ own) beyond ((n + 1) * 8) front, drop-at (take (n * 8) room ++ own) beyond ((n + 1) * 8) front)
+              (append-assoc (take (n * 8) room) own (written (later .records) beyond)
+              ∙ ap (λ l. take (n * 8) room ++ l) (sym all-written)
+              ∙ ap (λ (l : Listed). take (n * 8) room ++ written (l .records) (drop (n * 8) room)) (sym split)
+              ∙ behind .records);
+        }
+
+  -- The end: nothing is left of the list.
+  module _ (end : length list ≤ at) where
+    none : rests (drop at list) ≡ []
+    none = ap rests (drop-of-length-le list {i = at} end) ∙ rests-none
+
+    ended : onward b sender list at n ≡ record { bench = b; records = [] }
+    unfolding runRests
+    ended = rw none
+
+    pub bench-ended : b ≡ runList b₀ sender list .bench
+    bench-ended = ap (λ (l : Listed). l .bench) (sym ended) ∙ behind .state
+
+    pub all-counted : n ≡ length (rests list)
+    all-counted = omega (arith, behind .counted, ap length none)
+
+    pub room-ended : room ≡ written (runList b₀ sender list .records) room₀
+    room-ended =
+        sym (take-append-drop (n * 8) room)
+        ∙ ap (λ l. take (n * 8) room ++ l) (sym (with-room [] (drop (n * 8) room) (omega arith)))
+        ∙ ap (λ (l : Listed). take (n * 8) room ++ written (l .records) (drop (n * 8) room)) (sym ended)
+        ∙ behind .records

@@ -1,0 +1,182 @@
+-- A run over any events: the macro goes on second by second until its list has ended, whatever commands arrive, unless a STOP is accepted.
+use Prim.Native.Nat.{ℕ, suc, _+_, _-_, _≤_, _<_}
+use mathlib.Core.Path.{_≡_, refl, sym, ap, _∙_, subst}
+use mathlib.Core.List.{List, [], _∷_, _++_}
+use mathlib.Core.Bool.{Bool, true, false, cond, _||_, true≢false}
+use native.Mathlib.Omega.{arith}
+use lib.ListN.{length, getD}
+use lib.Dec.{ltb, eqb}
+use borrow.Author.Tests.{ltb-true, ltb-false, le-ltb, le-leb, eq-eqb}
+use Rattle.wire.specs.declared.kinds.Kind.{Kind}
+use Rattle.wire.specs.declared.kinds.Command.{Command}
+use Rattle.wire.specs.declared.decoding.Reading.{Reading}
+use Rattle.wire.specs.Judge.{toldWith, judgeCode}
+use Rattle.wire.specs.Read.{Answer, answerOf, readCode, readOf}
+use Rattle.store.specs.declared.Store.{Store}
+use Rattle.store.specs.Roles.{isRun}
+use Rattle.store.specs.Slots.{isClosed}
+use Rattle.store.specs.WrittenOut.{writtenOut}
+use Rattle.store.specs.Checks.{permitCode}
+use Rattle.store.specs.Effects.{nextEntry, afterSecond}
+use Rattle.store.proofs.Sound.{closed-small}
+use Rattle.store.proofs.Running.{RunOf, run-starts, run-stays, RunSecond, run-second, applied-idle, second-idle}
+use Rattle.bench.specs.declared.Bench.{Bench}
+use Rattle.bench.specs.Carry.{Outcome, outcomeFor, effectOf, carryCode, carryOut, said, carryBytesCode, carryOutBytes}
+use Rattle.bench.specs.Second.{secondAt}
+use Rattle.bench.specs.Events.{Event, command, bytes, second, afterOne, after, secondsIn, isStop, accepts, acceptsAny}
+use Rattle.bench.proofs.Outcomes.{carry-code, read-then, carry-bytes-code}
+use Rattle.bench.proofs.Sound.{GoodBench, good-store, effect-keeps, Takes, by-command, by-bytes, second-is, event-keeps, after-keeps}
+
+-- Two tests of which neither holds.
+neither : (a b : Bool) → (a || b) ≡ false → (a ≡ false) × (b ≡ false)
+neither false b e = (refl, e)
+neither true b e = absurd (true≢false e)
+
+-- Macro m runs on bench b with the list w, of which k seconds are over.
+abbrev Runs : ℕ → List (List Kind) → ℕ → Bench → Type 0
+Runs m w k b = RunOf m w k (b .store)
+
+-- A command that is accepted and is no STOP leaves the run as it was.
+module _ (m : ℕ) (w : List (List Kind)) (k : ℕ) (b : Bench) (good : GoodBench b) (run : Runs m w k b) where
+  taken-stays : (e : Event) (c : Command) → Takes b e c → accepts isStop b e ≡ false → Runs m w k (effectOf b c)
+  taken-stays e c t other = run-stays (b .store) (good-store b good) m w k run c (t .passed .judge) (t .passed .permit) (sym (t .told isStop) ∙ other)
+
+  pub command-stays : (c : Command) → accepts isStop b (command c) ≡ false → Runs m w k (afterOne b (command c))
+  command-stays c other = by-command (Runs m w k) b good c run (λ t. taken-stays (command c) c t other)
+
+  pub bytes-stays : (s : List ℕ) → accepts isStop b (bytes s) ≡ false → Runs m w k (afterOne b (bytes s))
+  bytes-stays s other = by-bytes (Runs m w k) b good s run (λ t. taken-stays (bytes s) (said s) t other)
+
+  pub second-goes : suc k < length w → Runs m w (suc k) (afterOne b second)
+  second-goes more = subst (Runs m w (suc k)) (sym (second-is b good)) (run-second (b .store) (good-store b good) m w k run .goes-on more)
+
+-- So over any events with no STOP accepted, while seconds of the list are left.
+pub runs-on : (m : ℕ) (w : List (List Kind)) (k : ℕ) (b : Bench) → GoodBench b → Runs m w k b → (es : List Event) → acceptsAny isStop b es ≡ false
+    → (n : ℕ) → k + secondsIn es ≡ n → n < length w → Runs m w n (after b es)
+runs-on m w k b good run [] none n e less = let same : k ≡ n = omega arith in subst (λ j. Runs m w j b) same run
+runs-on m w k b good run (command c ∷ es) none n e less =
+    let parts = neither (accepts isStop b (command c)) (acceptsAny isStop (afterOne b (command c)) es) none in
+    runs-on m w k (afterOne b (command c)) (event-keeps b good (command c)) (command-stays m w k b good run c (parts .0)) es (parts .1) n e less
+runs-on m w k b good run (bytes s ∷ es) none n e less =
+    let parts = neither (accepts isStop b (bytes s)) (acceptsAny isStop (afterOne b (bytes s)) es) none in
+    runs-on m w k (afterOne b (bytes s)) (event-keeps b good (bytes s)) (bytes-stays m w k b good run s (parts .0)) es (parts .1) n e less
+runs-on m w k b good run (second ∷ es) none n e less =
+    runs-on m w (suc k) (afterOne b second) (event-keeps b good second) (second-goes m w k b good run (omega arith)) es none n (omega arith) less
+
+-- An idle bench stays idle under every command that is accepted and is no RUN, and in every second.
+abbrev Idle : Bench → Type 0
+Idle b = b .store .running ≡ 255
+
+module _ (b : Bench) (good : GoodBench b) (free : Idle b) where
+  taken-idle : (e : Event) (c : Command) → Takes b e c → accepts isRun b e ≡ false → Idle (effectOf b c)
+  taken-idle e c t other = applied-idle (b .store) (good-store b good) c (t .passed .judge) (t .passed .permit) (sym (t .told isRun) ∙ other) free
+
+  event-idle : (e : Event) → accepts isRun b e ≡ false → Idle (afterOne b e)
+  event-idle (command c) other = by-command Idle b good c free (λ t. taken-idle (command c) c t other)
+  event-idle (bytes s) other = by-bytes Idle b good s free (λ t. taken-idle (bytes s) (said s) t other)
+  event-idle second other = ap (λ (b : Bench). b .store .running) (second-is b good) ∙ ap (λ (s : Store). s .running) (second-idle (b .store) free .1) ∙ free
+
+pub stays-idle : (b : Bench) → GoodBench b → Idle b → (es : List Event) → acceptsAny isRun b es ≡ false → Idle (after b es)
+stays-idle b good free [] none = free
+stays-idle b good free (e ∷ es) none =
+    let parts = neither (accepts isRun b e) (acceptsAny isRun (afterOne b e) es) none in
+    stays-idle (afterOne b e) (event-keeps b good e) (event-idle b good free e (parts .0)) es (parts .1)
+
+-- What a second of a sound bench hands over: nothing where it is idle.
+pub handed-is : (b : Bench) → GoodBench b → secondAt b .handed ≡ nextEntry (b .store)
+unfolding secondAt
+handed-is b good = rw (good .sound)
+
+pub idle-hands : (b : Bench) → GoodBench b → Idle b → secondAt b .handed ≡ []
+idle-hands b good free = handed-is b good ∙ second-idle (b .store) free .0
+
+-- Events one after the other.
+pub after-append : (b : Bench) (xs ys : List Event) → after b (xs ++ ys) ≡ after (after b xs) ys
+after-append b [] ys = refl
+after-append b (x ∷ xs) ys = after-append (afterOne b x) xs ys
+
+-- RUN m, to be executed, of a closed macro on an idle bench: it is accepted, decoded or from bytes that say it, and the run begins.
+abbrev pub runCommand : ℕ → Command
+runCommand m = record { flag = false; kind = Kind.Run m }
+
+module _ (b : Bench) (good : GoodBench b) (free : Idle b) (m : ℕ) (closed : isClosed (b .store) m ≡ true) where
+  pub run-judged : judgeCode (runCommand m) ≡ 0
+  unfolding judgeCode
+  run-judged =
+      let small : m < 8 = closed-small (b .store) (good .shaped) m closed in
+      simp (le-leb 0 m (omega arith), le-leb m 7 (omega arith))
+
+  pub run-permitted : permitCode (b .store) (runCommand m) ≡ 0
+  unfolding permitCode
+  run-permitted = simp (closed, eq-eqb (b .store .running) 255 free)
+
+  pub run-begins : Runs m (writtenOut (b .store) m) 0 (effectOf b (runCommand m))
+  run-begins = run-starts (b .store) (good-store b good) (runCommand m) run-judged run-permitted refl
+
+  -- What carrying it out answers: code 0, and the bench with the run begun.
+  abbrev begun : Outcome
+  begun = record { told = toldWith 0 0; bench = effectOf b (runCommand m) }
+
+  pub run-accepted : carryOut b (runCommand m) ≡ begun
+  unfolding carryOut
+  run-accepted =
+      let code : carryCode b (runCommand m) ≡ 0 = rw (carry-code b (runCommand m) (good .sound), run-judged) run-permitted in
+      ap (λ n. outcomeFor n b (runCommand m)) code
+
+  pub run-accepted-bytes : (s : List ℕ) → readOf s ≡ answerOf (Reading.Taken (runCommand m)) → carryOutBytes b s ≡ begun
+  unfolding carryOutBytes readOf
+  run-accepted-bytes s read =
+      let none : readCode s ≡ 0 = ap (λ (a : Answer). a .told .code) read in
+      let both : cond (eqb (readCode s) 0) (said s ∷ []) [] ≡ runCommand m ∷ [] = ap (λ (a : Answer). a .taken) read in
+      let one : said s ∷ [] ≡ runCommand m ∷ [] = rw none at both in
+      let same : said s ≡ runCommand m = cc in
+      let code : carryBytesCode b s ≡ 0 = rw (carry-bytes-code b s (good .sound), read-then b s, none, same) run-permitted in
+      ap (λ n. outcomeFor n b (said s)) code ∙ ap (λ (c : Command). outcomeFor 0 b c) same
+
+  pub begun-sound : GoodBench (effectOf b (runCommand m))
+  begun-sound = effect-keeps b good (runCommand m) (record { judge = run-judged; permit = run-permitted })
+
+-- A run that has begun, and events up to second k with no STOP accepted: what that second hands over, and what it leaves.
+module _ (m : ℕ) (w : List (List Kind)) (start : Bench) (good : GoodBench start) (run : Runs m w 0 start)
+    (es : List Event) (k : ℕ) (seconds : secondsIn es + 1 ≡ k) (none : acceptsAny isStop start es ≡ false) (within : k ≤ length w) where
+  abbrev now : Bench
+  now = after start es
+
+  now-good : GoodBench now
+  now-good = after-keeps start good es
+
+  pub now-runs : Runs m w (k - 1) now
+  now-runs = runs-on m w 0 start good run es none (k - 1) (omega arith) (omega arith)
+
+  pub now-hands : secondAt now .handed ≡ getD w (k - 1) []
+  now-hands = handed-is now now-good ∙ run-second (now .store) (good-store now now-good) m w (k - 1) now-runs .handed
+
+  -- The bench as second k ends.
+  abbrev next : Bench
+  next = after start (es ++ (second ∷ []))
+
+  pub next-good : GoodBench next
+  next-good = after-keeps start good (es ++ (second ∷ []))
+
+  next-is : next .store ≡ afterSecond (now .store)
+  next-is = ap (λ (b : Bench). b .store) (after-append start es (second ∷ []) ∙ second-is now now-good)
+
+  pub next-says : (next .store .running ≡ cond (ltb k (length w)) m 255) × (next .store .left ≡ length w - k)
+  next-says = go (ltb k (length w)) refl
+    where
+      step : RunSecond m w (k - 1) (now .store)
+      step = run-second (now .store) (good-store now now-good) m w (k - 1) now-runs
+
+      go : (t : Bool) → ltb k (length w) ≡ t → (next .store .running ≡ cond t m 255) × (next .store .left ≡ length w - k)
+      go true e =
+          let less : k < length w = ltb-true k (length w) e in
+          let on = step .goes-on (omega arith) in
+          let over : suc (k - 1) ≡ k = omega arith in
+          (ap (λ (s : Store). s .running) next-is ∙ on .running, ap (λ (s : Store). s .left) next-is ∙ on .left ∙ ap (λ n. length w - n) over)
+      go false e =
+          let least : length w ≤ k = ltb-false k (length w) e in
+          let free : next .store .running ≡ 255 = ap (λ (s : Store). s .running) next-is ∙ step .ends (omega arith) in
+          (free, good-store next next-good .marks .idle free ∙ omega arith)
+
+  pub next-idle : k ≡ length w → next .store .running ≡ 255
+  next-idle last = rw (le-ltb k (length w) (omega arith)) at (next-says .0)

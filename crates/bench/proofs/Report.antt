@@ -1,0 +1,293 @@
+-- 01, "Two lists, one report", for a moderator to read: where each record stands and what it carries, that a run is its commands carried out one after
+-- another, that a refused run leaves everything, and that the bytes shown for a record are those it judged. Places k count from 0, numbers are k + 1.
+use Prim.Native.Nat.{ℕ, zero, suc, _+_, _*_, _≤_, _<_}
+use mathlib.Core.Path.{_≡_, refl, sym, ap, _∙_}
+use mathlib.Core.List.{List, [], _∷_, _++_, append-assoc, map}
+use mathlib.Core.Bool.{Bool, true, false, cond, not, _||_}
+use native.Mathlib.Omega.{arith}
+use lib.ListN.{length, getD, take, drop, length-append, length-drop}
+use lib.Seq.{drop-drop, take-append-le, drop-append-le, drop-append-add, drop-at}
+use lib.Dec.{eqb, ltb}
+use borrow.Author.Tests.{ltb-false, ne-eqb, not-false, eqb-true}
+use Rattle.words.specs.BigEndian.{wordAt, byteAt, written}
+use Rattle.words.proofs.Laws.{with-room}
+use Rattle.wire.specs.declared.judging.Told.{Told}
+use Rattle.wire.proofs.Order.{Order, order, due-none}
+use Rattle.walk.specs.Walk.{rests}
+use Rattle.walk.specs.Shown.{tooLong, listOf, shownOf}
+use Rattle.walk.proofs.Rests.{records-fit}
+use Rattle.walk.proofs.Shows as shows
+use Rattle.report.specs.Record.{recordBytes}
+use Rattle.bench.specs.declared.Bench.{Bench}
+use Rattle.bench.specs.Status.{freshBench, benchSound}
+use Rattle.bench.specs.Carry.{Outcome, taken, carryOutBytes}
+use Rattle.bench.specs.Events.{Event, bytes, afterOne, after, Reached}
+use Rattle.bench.specs.Run.{runRests, runList, kitPart, pupilPart, runChecks, runCode, RunTold, runFor, runOf, reportOf, roomAfter}
+use Rattle.bench.proofs.Outcomes.{sound-bytes}
+use Rattle.bench.proofs.Listing.{records-long, eight-within}
+use Rattle.bench.proofs.Own.{taken-own}
+
+-- The bench that some commands leave, each taken on the bench that the one before it left.
+abbrev pub leftBy : Bench → List (List ℕ) → Bench
+leftBy b [] = b
+leftBy b (r ∷ rs) = leftBy (taken b r .bench) rs
+
+-- What command number k + 1 of a list meets: the list from where that command begins, and the bench that the first k commands left.
+abbrev pub restAt : List ℕ → ℕ → List ℕ
+restAt s k = getD (rests s) k []
+
+abbrev pub benchAt : Bench → List ℕ → ℕ → Bench
+benchAt b s k = leftBy b (take k (rests s))
+
+-- The verdict on it, a code and a parameter.
+abbrev pub verdictAt : Bench → List ℕ → ℕ → Told
+verdictAt b s k = taken (benchAt b s k) (restAt s k) .told
+
+-- A record of a verdict, and the record at a place, from 0, of a report.
+abbrev pub recordOf : ℕ → Told → ℕ → List ℕ
+recordOf sender told number = recordBytes sender (told .code) (told .par) number
+
+abbrev pub recordAt : List ℕ → ℕ → List ℕ
+recordAt report k = take 8 (drop (8 * k) report)
+
+-- A list's records are 8 bytes to each command.
+pub list-long : (b : Bench) (sender : ℕ) (s : List ℕ) → length (runList b sender s .records) ≡ 8 * length (rests s)
+list-long b sender s = records-long b sender 1 (rests s)
+
+-- So are the records of both lists; they take at most 8,192 bytes where no list is longer than 4,096.
+pub report-long : (b : Bench) (kit pupil : List ℕ) → length (reportOf b kit pupil) ≡ 8 * (length (rests kit) + length (rests pupil))
+report-long b kit pupil =
+    length-append (kitPart b kit .records) (pupilPart b kit pupil .records)
+    ∙ omega (arith, list-long b 1 kit, list-long (kitPart b kit .bench) 2 pupil)
+
+pub report-fits : (b : Bench) (kit pupil : List ℕ) → length kit ≤ 4096 → length pupil ≤ 4096 → length (reportOf b kit pupil) ≤ 8192
+report-fits b kit pupil kit-short pupil-short = omega (arith, report-long b kit pupil, records-fit kit pupil kit-short pupil-short)
+
+-- For the theorems below: the bench that a list leaves, and the record at a place of it.
+list-leaves : (b : Bench) (sender number : ℕ) (rs : List (List ℕ)) → runRests b sender number rs .bench ≡ leftBy b rs
+unfolding runRests
+list-leaves b sender number [] = refl
+list-leaves b sender number (r ∷ rs) = list-leaves (taken b r .bench) sender (number + 1) rs
+
+rests-record : (b : Bench) (sender number : ℕ) (rs : List (List ℕ)) (k : ℕ) → k < length rs
+    → recordAt (runRests b sender number rs .records) k ≡ recordOf sender (taken (leftBy b (take k rs)) (getD rs k []) .told) (number + k)
+unfolding runRests
+rests-record b sender number [] k there = absurd (omega arith)
+rests-record b sender number (r ∷ rs) zero there = ap (recordOf sender (taken b r .told)) next
+  where
+    next : number ≡ number + 0
+    next = omega arith
+rests-record b sender number (r ∷ rs) (suc k) there =
+    let l = runRests b sender number (r ∷ rs) .records in
+    ap (λ n. take 8 (drop n l)) eight
+    ∙ ap (take 8) (sym (drop-drop (8 * k) 8 l))
+    ∙ rests-record (taken b r .bench) sender (number + 1) rs k (omega arith)
+    ∙ ap (recordOf sender (taken (leftBy (taken b r .bench) (take k rs)) (getD rs k []) .told)) next
+  where
+    eight : 8 * suc k ≡ 8 + 8 * k
+    eight = omega arith
+
+    next : number + 1 + k ≡ number + suc k
+    next = omega arith
+
+-- Record number k + 1 of a sender's list, the one at place k: that sender, the verdict on the list's command number k + 1, and the number k + 1.
+pub list-record : (b : Bench) (sender : ℕ) (s : List ℕ) (k : ℕ) → k < length (rests s)
+    → recordAt (runList b sender s .records) k ≡ recordOf sender (verdictAt b s k) (k + 1)
+list-record b sender s k there = rests-record b sender 1 (rests s) k there ∙ ap (recordOf sender (verdictAt b s k)) next
+  where
+    next : 1 + k ≡ k + 1
+    next = omega arith
+
+-- The 8 bytes of such a record: the sender, the code, the parameter, 0, and the number in 32 bits.
+pub record Carries (bytes : List ℕ) (from : ℕ) (verdict : Told) (n : ℕ) : Type 0 where
+  pub long : length bytes ≡ 8
+  pub sender : byteAt bytes 0 ≡ from
+  pub code : byteAt bytes 1 ≡ verdict .code
+  pub par : byteAt bytes 2 ≡ verdict .par
+  pub spare : byteAt bytes 3 ≡ 0
+  pub number : wordAt bytes 4 ≡ n
+
+pub record-carries : (sender : ℕ) (verdict : Told) (number : ℕ) → Carries (recordOf sender verdict number) sender verdict number
+record-carries sender verdict number = record { long = refl; sender = refl; code = refl; par = refl; spare = refl; number = omega arith }
+
+-- What a run with code 0 has passed: 20, 21 and 27 are not due.
+pub record Passed (b : Bench) (kit pupil room : List ℕ) : Type 0 where
+  pub kit-short : length kit ≤ 4096
+  pub pupil-short : length pupil ≤ 4096
+  pub enough : 8192 ≤ length room
+  pub sound : benchSound b ≡ true
+
+neither : (p q : Bool) → (p || q) ≡ false → (p ≡ false) × (q ≡ false)
+neither false false e = (refl, refl)
+neither false true e = absurd (let z : _≡_ {A = ℕ} 0 1 = cc in omega arith)
+neither true q e = absurd (let z : _≡_ {A = ℕ} 0 1 = cc in omega arith)
+
+pub passed : (b : Bench) (kit pupil room : List ℕ) → runOf b kit pupil room .code ≡ 0 → Passed b kit pupil room
+unfolding runOf runCode
+passed b kit pupil room accepted =
+    let none = due-none 0 (runChecks b kit pupil room) refl accepted in
+    let short = neither (ltb 4096 (length kit)) (ltb 4096 (length pupil)) (none .0) in
+    record {
+      kit-short = ltb-false 4096 (length kit) (short .0);
+      pupil-short = ltb-false 4096 (length pupil) (short .1);
+      enough = ltb-false (length room) 8192 (none .1 .0);
+      sound = not-false (benchSound b) (none .1 .1 .0);
+    }
+
+-- A run that is carried out.
+module _ (b : Bench) (kit pupil room : List ℕ) (accepted : runOf b kit pupil room .code ≡ 0) where
+  -- "The answer gives the number of records for each sender."
+  pub kit-count : runOf b kit pupil room .kit ≡ length (rests kit)
+  unfolding runOf
+  kit-count = rw accepted
+
+  pub pupil-count : runOf b kit pupil room .pupil ≡ length (rests pupil)
+  unfolding runOf
+  pupil-count = rw accepted
+
+  -- The bench is the one that the pupil's list leaves, begun on the one that the kit's list left.
+  pub bench-after : runOf b kit pupil room .bench ≡ pupilPart b kit pupil .bench
+  unfolding runOf
+  bench-after = rw accepted
+
+  abbrev first : List ℕ
+  first = kitPart b kit .records
+
+  abbrev second : List ℕ
+  second = pupilPart b kit pupil .records
+
+  abbrev stays : List ℕ
+  stays = drop (length (reportOf b kit pupil)) room
+
+  filled : roomAfter b kit pupil room ≡ reportOf b kit pupil ++ stays
+  unfolding roomAfter runOf
+  filled =
+      let p = passed b kit pupil room accepted in
+      rw accepted (with-room (reportOf b kit pupil) room (omega (arith, p, report-fits b kit pupil (p .kit-short) (p .pupil-short))))
+
+  -- The kit's record number k + 1 stands at place k of the room: sender 1, the verdict on the kit's command, its number in the kit's list.
+  pub kit-record : (k : ℕ) → k < length (rests kit) → recordAt (roomAfter b kit pupil room) k ≡ recordOf 1 (verdictAt b kit k) (k + 1)
+  kit-record k there =
+      ap (λ l. recordAt l k) (filled ∙ append-assoc first second stays)
+      ∙ eight-within first (second ++ stays) (8 * k) (omega (arith, list-long b 1 kit))
+      ∙ list-record b 1 kit k there
+
+  -- The pupil's record number k + 1 stands k places behind the kit's records: sender 2, the verdict on the pupil's command, its number in the
+  -- pupil's own list.
+  pub pupil-record : (k : ℕ) → k < length (rests pupil)
+      → recordAt (roomAfter b kit pupil room) (length (rests kit) + k) ≡ recordOf 2 (verdictAt (kitPart b kit .bench) pupil k) (k + 1)
+  pupil-record k there =
+      ap (λ l. recordAt l (length (rests kit) + k)) (filled ∙ append-assoc first second stays)
+      ∙ ap (λ n. take 8 (drop n (first ++ (second ++ stays)))) place
+      ∙ ap (take 8) (drop-append-add first (second ++ stays) (8 * k))
+      ∙ eight-within second stays (8 * k) (omega (arith, list-long (kitPart b kit .bench) 2 pupil))
+      ∙ list-record (kitPart b kit .bench) 2 pupil k there
+    where
+      place : 8 * (length (rests kit) + k) ≡ length first + 8 * k
+      place = omega (arith, list-long b 1 kit)
+
+  -- "Bytes after the last record stay."
+  pub rest-stays : let end = 8 * (length (rests kit) + length (rests pupil)) in drop end (roomAfter b kit pupil room) ≡ drop end room
+  rest-stays =
+      let end = 8 * (length (rests kit) + length (rests pupil)) in
+      ap (drop end) filled
+      ∙ drop-at (reportOf b kit pupil) stays end (report-long b kit pupil)
+      ∙ ap (λ n. drop n room) (report-long b kit pupil)
+
+-- A run is its commands carried out one after another. `Good` is soundness in any form that carrying out keeps.
+module _ (Good : Bench → Type 0) (sound : (b : Bench) → Good b → benchSound b ≡ true)
+    (keeps : (b : Bench) (s : List ℕ) → Good b → Good (carryOutBytes b s .bench)) where
+  left-after : (b : Bench) → Good b → (rs : List (List ℕ)) → (leftBy b rs ≡ after b (map bytes rs)) × Good (leftBy b rs)
+  left-after b good [] = (refl, good)
+  left-after b good (r ∷ rs) =
+      rw (sound-bytes b r (sound b good)) (left-after (carryOutBytes b r .bench) (keeps b r good) rs)
+
+  left-append : (b : Bench) (xs ys : List (List ℕ)) → leftBy (leftBy b xs) ys ≡ leftBy b (xs ++ ys)
+  left-append b [] ys = refl
+  left-append b (x ∷ xs) ys = left-append (taken b x .bench) xs ys
+
+  after-append : (b : Bench) (xs ys : List Event) → after (after b xs) ys ≡ after b (xs ++ ys)
+  after-append b [] ys = refl
+  after-append b (x ∷ xs) ys = after-append (afterOne b x) xs ys
+
+  module _ (b : Bench) (good : Good b) (kit pupil : List ℕ) where
+    both-left : pupilPart b kit pupil .bench ≡ leftBy b (rests kit ++ rests pupil)
+    both-left =
+        list-leaves (kitPart b kit .bench) 2 1 (rests pupil)
+        ∙ ap (λ c. leftBy c (rests pupil)) (list-leaves b 1 1 (rests kit))
+        ∙ left-append b (rests kit) (rests pupil)
+
+    -- A run leaves exactly the state of carrying out its commands one after another, and a good one.
+    pub run-leaves : pupilPart b kit pupil .bench ≡ after b (map bytes (rests kit ++ rests pupil))
+    run-leaves = both-left ∙ left-after b good (rests kit ++ rests pupil) .0
+
+    pub run-good : Good (pupilPart b kit pupil .bench)
+    run-good = rw both-left (left-after b good (rests kit ++ rests pupil) .1)
+
+    -- Each command's verdict is that of carrying it out in the state that the commands before it leave.
+    pub kit-verdict : (k : ℕ) → verdictAt b kit k ≡ carryOutBytes (after b (map bytes (take k (rests kit)))) (restAt kit k) .told
+    kit-verdict k =
+        let before = left-after b good (take k (rests kit)) in
+        ap (λ (o : Outcome). o .told) (sound-bytes (benchAt b kit k) (restAt kit k) (sound (benchAt b kit k) (before .1)))
+        ∙ ap (λ c. carryOutBytes c (restAt kit k) .told) (before .0)
+
+    pub pupil-verdict : (k : ℕ)
+        → verdictAt (kitPart b kit .bench) pupil k ≡ carryOutBytes (after b (map bytes (rests kit ++ take k (rests pupil)))) (restAt pupil k) .told
+    pupil-verdict k =
+        let before = left-after b good (rests kit ++ take k (rests pupil)) in
+        let bench : benchAt (kitPart b kit .bench) pupil k ≡ leftBy b (rests kit ++ take k (rests pupil)) =
+        ap (λ c. leftBy c (take k (rests pupil))) (list-leaves b 1 1 (rests kit)) ∙ left-append b (rests kit) (take k (rests pupil)) in
+        ap (λ c. taken c (restAt pupil k) .told) bench
+        ∙ ap (λ (o : Outcome). o .told) (sound-bytes _ (restAt pupil k) (sound _ (before .1)))
+        ∙ ap (λ c. carryOutBytes c (restAt pupil k) .told) (before .0)
+
+    -- So a state that a run leaves, refused or not, is one that can be reached if the state before was.
+    pub run-reaches : (room : List ℕ) → Reached b → Reached (runOf b kit pupil room .bench)
+    unfolding runOf
+    run-reaches room r = go (eqb (runCode b kit pupil room) 0)
+      where
+        go : (carried : Bool) → Reached (cond carried (pupilPart b kit pupil .bench) b)
+        go true =
+            record {
+              events = r .events ++ map bytes (rests kit ++ rests pupil);
+              reached =
+                  sym (after-append freshBench (r .events) (map bytes (rests kit ++ rests pupil)))
+                  ∙ ap (λ c. after c (map bytes (rests kit ++ rests pupil))) (r .reached)
+                  ∙ sym run-leaves;
+            }
+        go false = r
+
+-- The code of a run is the first of 20, 21 and 27 that is due, and 0 exactly when none is.
+pub run-order : (b : Bench) (kit pupil room : List ℕ) → Order (runChecks b kit pupil room) (runOf b kit pupil room .code)
+unfolding runOf runCode
+run-order b kit pupil room = order (runChecks b kit pupil room) refl
+
+-- A refused run leaves the bench and every byte of the room as they were, with counts of zero.
+pub record Untouched (b : Bench) (kit pupil room : List ℕ) : Type 0 where
+  pub bench : runOf b kit pupil room .bench ≡ b
+  pub kit-count : runOf b kit pupil room .kit ≡ 0
+  pub pupil-count : runOf b kit pupil room .pupil ≡ 0
+  pub bytes : roomAfter b kit pupil room ≡ room
+
+pub refused-leaves : (b : Bench) (kit pupil room : List ℕ) → (runOf b kit pupil room .code ≡ 0 → ⊥) → Untouched b kit pupil room
+unfolding runOf roomAfter
+refused-leaves b kit pupil room refused =
+    let not-0 = ne-eqb (runCode b kit pupil room) 0 refused in
+    record { bench = rw not-0; kit-count = rw not-0; pupil-count = rw not-0; bytes = rw not-0 }
+
+-- The bytes shown for a sender and number k + 1 are the very bytes that record k + 1 of that sender judged.
+module _ (kit pupil : List ℕ) (kit-short : length kit ≤ 4096) (pupil-short : length pupil ≤ 4096) where
+  -- They are the command that the list, from where that command begins, begins with.
+  pub shown-first : (sender k : ℕ) → shownOf kit pupil sender (k + 1) ≡ shows.first (restAt (listOf kit pupil sender) k)
+  shown-first sender k = shows.shows kit pupil kit-short pupil-short sender k
+
+  -- Alone they are judged as in the list, on any bench: the verdict is theirs and hangs on no other byte.
+  pub shown-judged : (b : Bench) (sender k : ℕ) → taken b (shownOf kit pupil sender (k + 1)) ≡ taken b (restAt (listOf kit pupil sender) k)
+  shown-judged b sender k = ap (taken b) (shown-first sender k) ∙ taken-own b (restAt (listOf kit pupil sender) k)
+
+  -- So the verdict in a record is the one on the bytes shown for it.
+  pub kit-shown : (b : Bench) (k : ℕ) → verdictAt b kit k ≡ taken (benchAt b kit k) (shownOf kit pupil 1 (k + 1)) .told
+  kit-shown b k = ap (λ (o : Outcome). o .told) (sym (shown-judged (benchAt b kit k) 1 k))
+
+  pub pupil-shown : (b : Bench) (k : ℕ) → verdictAt b pupil k ≡ taken (benchAt b pupil k) (shownOf kit pupil 2 (k + 1)) .told
+  pupil-shown b k = ap (λ (o : Outcome). o .told) (sym (shown-judged (benchAt b pupil k) 2 k))

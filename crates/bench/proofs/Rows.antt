@@ -1,0 +1,74 @@
+-- The rows of 01's codes as a bench tries them: on a sound one rows 8 to 19 or, from bytes, 1 to 19, whose codes rise; on any other one row 27.
+use Prim.Native.Nat.{ℕ, _≤_}
+use mathlib.Core.Path.{_≡_, refl, sym, ap, subst}
+use mathlib.Core.List.{List, [], _∷_, _++_}
+use mathlib.Core.Bool.{Bool, true, false, cond, _&&_}
+use native.Mathlib.Omega.{arith}
+use lib.Dec.{leb}
+use borrow.Author.Tests.{leb-true}
+use Rattle.words.specs.BigEndian.{wordAt}
+use Rattle.wire.specs.declared.table.Found.{Found}
+use Rattle.wire.specs.declared.kinds.Command.{Command}
+use Rattle.wire.specs.Codes.{Check, firstOf}
+use Rattle.wire.specs.Table.{ruleOf}
+use Rattle.wire.specs.Read.{decodeChecks, opcodeOf, flagOf, lengthOf, thirdWord}
+use Rattle.wire.proofs.Order.{Order, order, rising}
+use Rattle.frame.proofs.Laws.{both}
+use Rattle.store.specs.Checks.{storeChecks}
+use Rattle.bench.specs.declared.Bench.{Bench}
+use Rattle.bench.specs.Status.{benchSound}
+use Rattle.bench.specs.Carry.{Outcome, commandChecks, carryOut, said, bytesChecks, carryOutBytes}
+use Rattle.bench.proofs.Outcomes.{carry-bytes-code, unsound, unsound-bytes}
+
+-- The code that is told.
+pub command-code : (b : Bench) (c : Command) → benchSound b ≡ true → carryOut b c .told .code ≡ firstOf (commandChecks b c)
+unfolding carryOut
+command-code b c sound = rw sound
+
+pub bytes-code : (b : Bench) (s : List ℕ) → benchSound b ≡ true → carryOutBytes b s .told .code ≡ firstOf (bytesChecks b s)
+unfolding carryOutBytes
+bytes-code b s sound = carry-bytes-code b s sound
+
+-- The codes rise, so each says which row was the first; and none is above 19.
+abbrev upTo : ℕ → List Check → Bool
+upTo n [] = true
+upTo n (c ∷ cs) = leb (c .code) n && upTo n cs
+
+bytes-rise : (b : Bench) (s : List ℕ) → (rising 0 (bytesChecks b s) ≡ true) × (upTo 19 (bytesChecks b s) ≡ true)
+bytes-rise b s = go (ruleOf (opcodeOf s))
+  where
+    later : Found → List Check
+    later found = decodeChecks found (flagOf s) (lengthOf s) (wordAt s 4) (thirdWord s (lengthOf s)) ++ storeChecks (b .store) (said s)
+
+    go : (found : Found) → (rising 4 (later found) ≡ true) × (upTo 19 (later found) ≡ true)
+    go (Found.Known form length) = (refl, refl)
+    go Found.Unknown = (refl, refl)
+
+pub command-order : (b : Bench) → benchSound b ≡ true → (c : Command) → Order (commandChecks b c) (carryOut b c .told .code)
+command-order b sound c = subst (Order (commandChecks b c)) (sym (command-code b c sound)) (order (commandChecks b c) refl)
+
+pub bytes-order : (b : Bench) → benchSound b ≡ true → (s : List ℕ) → Order (bytesChecks b s) (carryOutBytes b s .told .code)
+bytes-order b sound s = subst (Order (bytesChecks b s)) (sym (bytes-code b s sound)) (order (bytesChecks b s) (bytes-rise b s .0))
+
+first-upTo : (n : ℕ) (cs : List Check) → upTo n cs ≡ true → firstOf cs ≤ n
+first-upTo n [] h = omega arith
+first-upTo n (c ∷ cs) h =
+    let parts = both (leb (c .code) n) (upTo n cs) h in
+    go (c .due) (leb-true (c .code) n (parts .0)) (first-upTo n cs (parts .1))
+  where
+    go : (t : Bool) → c .code ≤ n → firstOf cs ≤ n → cond t (c .code) (firstOf cs) ≤ n
+    go true own rest = own
+    go false own rest = rest
+
+pub command-most : (b : Bench) → benchSound b ≡ true → (c : Command) → carryOut b c .told .code ≤ 19
+command-most b sound c = rw (command-code b c sound) (first-upTo 19 (commandChecks b c) refl)
+
+pub bytes-most : (b : Bench) → benchSound b ≡ true → (s : List ℕ) → carryOutBytes b s .told .code ≤ 19
+bytes-most b sound s = rw (bytes-code b s sound) (first-upTo 19 (bytesChecks b s) (bytes-rise b s .1))
+
+-- On a bench that is not sound row 27 is the first.
+pub command-unsound : (b : Bench) → benchSound b ≡ false → (c : Command) → carryOut b c .told .code ≡ 27
+command-unsound b e c = ap (λ (o : Outcome). o .told .code) (sym (unsound b c e))
+
+pub bytes-unsound : (b : Bench) → benchSound b ≡ false → (s : List ℕ) → carryOutBytes b s .told .code ≡ 27
+bytes-unsound b e s = ap (λ (o : Outcome). o .told .code) (sym (unsound-bytes b s e))

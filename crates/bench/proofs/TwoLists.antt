@@ -1,0 +1,69 @@
+-- A whole run, from what the code finds: what a refused run leaves, and that the records of both lists, the pupil's put behind the kit's, are the
+-- report put as one.
+use Prim.Native.Nat.{ℕ, _+_, _*_, _-_, _≤_}
+use mathlib.Core.Path.{_≡_, refl, sym, ap, _∙_}
+use mathlib.Core.List.{List, _++_}
+use mathlib.Core.Bool.{false}
+use native.Mathlib.Omega.{arith}
+use lib.ListN.{length, take, drop, length-append, length-drop}
+use lib.Seq.{take-at, drop-at}
+use lib.Dec.{eqb}
+use borrow.Rule.Slice.PartMut.{putMid}
+use Rattle.words.specs.BigEndian.{written}
+use Rattle.words.proofs.Laws.{with-room, part-written}
+use Rattle.walk.specs.Walk.{rests}
+use Rattle.walk.proofs.Turns.{from-place}
+use Rattle.bench.specs.declared.Bench.{Bench}
+use Rattle.bench.specs.declared.running.Ran.{Ran}
+use Rattle.bench.specs.declared.running.Begun.{Begun}
+use Rattle.bench.specs.Run.{runList, kitPart, pupilPart, runCode, begunCode, ranOf, refusedWith, runOf, roomAfter}
+use Rattle.bench.proofs.Listing.{records-long, written-both}
+
+module _ (b : Bench) (kit pupil room : List ℕ) where
+  -- What a run promises of its answer and of its room afterwards.
+  abbrev pub Promise : Ran → List ℕ → Type 0
+  Promise r left = (ranOf r ≡ runOf b kit pupil room) × (left ≡ roomAfter b kit pupil room)
+
+  -- A refused run: the bench and the room as they were, and counts of zero.
+  pub refused-run : (begun : Begun) (r : Ran) → r ≡ refusedWith b begun → eqb (begunCode begun) 0 ≡ false → runCode b kit pupil room ≡ begunCode begun
+      → Promise r room
+  unfolding runOf roomAfter
+  refused-run begun r is other code = rw (is, code, other) (refl, refl)
+
+  -- The records of both lists have room, and the kit's list was carried out with m of them.
+  module _ (fits : (length (rests kit) + length (rests pupil)) * 8 ≤ length room) (m : ℕ) (b₁ : Bench) (room₁ : List ℕ) (m-is : m ≡ length (rests kit))
+      (b₁-is : b₁ ≡ kitPart b kit .bench) (room₁-is : room₁ ≡ written (kitPart b kit .records) room) where
+    abbrev first : List ℕ
+    first = kitPart b kit .records
+
+    first-long : length first ≡ m * 8
+    first-long = omega (arith, records-long b 1 1 (rests kit))
+
+    first-put : room₁ ≡ first ++ drop (length first) room
+    first-put = room₁-is ∙ with-room first room (omega (arith, first-long))
+
+    -- So the pupil's have room behind the kit's.
+    pub rest-fits : (m + length (rests pupil)) * 8 ≤ length room₁
+    rest-fits =
+        let long = ap length first-put ∙ length-append first (drop (length first) room) in
+        omega (arith, first-long, length-drop (length first) room)
+
+    pub part-fits : length (rests pupil) * 8 ≤ length (take (length room₁ - m * 8) (drop (m * 8) room₁))
+    part-fits = rw (from-place room₁ (m * 8)) (omega (arith, rest-fits, length-drop (m * 8) room₁))
+
+    -- The pupil's list was carried out then with n records, in that part of the room.
+    module _ (n : ℕ) (b₂ : Bench) (part : List ℕ) (n-is : n ≡ length (rests pupil)) (b₂-is : b₂ ≡ runList b₁ 2 pupil .bench)
+        (part-is : part ≡ written (runList b₁ 2 pupil .records) (take (length room₁ - m * 8) (drop (m * 8) room₁))) where
+      abbrev second : List ℕ
+      second = pupilPart b kit pupil .records
+
+      both-put : putMid (m * 8) (length room₁ - m * 8) room₁ part ≡ written (first ++ second) room
+      both-put =
+          part-written (m * 8) second room₁ part (omega (arith, rest-fits)) (part-is ∙ ap (λ (b : Bench). written (runList b 2 pupil .records) (take (length room₁ - m * 8) (drop (m * 8) room₁))) b₁-is)
+          ∙ rw (first-put, take-at first (drop (length first) room) (m * 8) first-long, drop-at first (drop (length first) room) (m * 8) first-long)
+          (sym (written-both first second room (omega (arith, first-long, records-long (kitPart b kit .bench) 2 1 (rests pupil)))))
+
+      pub run-done : runCode b kit pupil room ≡ 0
+          → Promise (record { bench = b₂; begun = Begun.Done; kit = m; pupil = n }) (putMid (m * 8) (length room₁ - m * 8) room₁ part)
+      unfolding runOf roomAfter
+      run-done code = (rw (code, b₂-is, b₁-is, m-is, n-is), rw code both-put)

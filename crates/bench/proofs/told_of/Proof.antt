@@ -1,0 +1,49 @@
+-- `bench::told_of` meets its contract: in each arm the verdict is known.
+use borrow.Author.Needs.{needs}
+use Rattle.bench.proofs.told_of.Statement.{statement}
+use Rattle.bench.proofs.told_of.Tie as tie
+
+enum-told : tie.Need-enum-told
+enum-told c = search needs
+
+enum-told-2 : tie.Need-enum-told-2
+enum-told-2 c = search needs
+
+enum-known-verdict : tie.Need-enum-known-verdict
+enum-known-verdict c = search needs
+
+told-of-requires : tie.Need-told-of-requires
+told-of-requires c κs = search needs
+
+enum-known-verdict-2 : tie.Need-enum-known-verdict-2
+enum-known-verdict-2 c = search needs
+
+code-of-requires : tie.Need-code-of-requires
+code-of-requires c κs = search needs
+
+returns : tie.Need-returns
+returns c = rw (c .enum-told .given .1)
+
+returns-2 : tie.Need-returns-2
+returns-2 c = rw (c .enum-told2 .given .1)
+
+returns-3 : tie.Need-returns-3
+returns-3 c = search needs
+
+returns-4 : tie.Need-returns-4
+returns-4 c = rw (c .code-of .ensures, c .before .before .verdict2 .given .1)
+
+pub told-of-spec : {M : Type 1} → statement M
+told-of-spec =
+    tie.close
+    (tie.spec
+    enum-told
+    enum-told-2
+    enum-known-verdict
+    told-of-requires
+    enum-known-verdict-2
+    code-of-requires
+    returns
+    returns-2
+    returns-3
+    returns-4)

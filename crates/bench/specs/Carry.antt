@@ -1,0 +1,86 @@
+-- Carrying out one command: the codes in their order, the effect of an accepted command, and that a refused one changes no part of the state.
+use Prim.Native.Nat.{ℕ}
+use mathlib.Core.List.{List, _∷_, _++_}
+use mathlib.Core.Bool.{cond}
+use lib.Dec.{eqb}
+use Rattle.wire.specs.declared.kinds.Command.{Command}
+use Rattle.wire.specs.declared.judging.Told.{Told}
+use Rattle.wire.specs.Codes.{Check, firstOf}
+use Rattle.wire.specs.Judge.{toldWith, toldOf, argChecks, parFor}
+use Rattle.wire.specs.Read.{lengthOf, commandIn, readChecks}
+use Rattle.camera.specs.declared.Camera.{Camera}
+use Rattle.camera.specs.Camera.{executedOf}
+use Rattle.store.specs.Checks.{codeOf, storeChecks}
+use Rattle.store.specs.Effects.{appliedOf}
+use Rattle.bench.specs.declared.Bench.{Bench}
+use Rattle.bench.specs.declared.Verdict.{Verdict}
+use Rattle.bench.specs.declared.Carried.{Carried}
+use Rattle.bench.specs.Status.{soundCheck}
+
+-- 01's number and parameter of each verdict.
+abbrev pub verdictOf : Verdict → Told
+verdictOf Verdict.Accepted = toldWith 0 0
+verdictOf Verdict.Unsound = toldWith 27 0
+verdictOf (Verdict.Misread refusal) = toldOf refusal
+verdictOf (Verdict.Denied denial) = toldWith (codeOf denial) 0
+
+-- What carrying out answers: the code with its parameter, and the bench afterwards.
+pub record Outcome : Type 0 where
+  pub told : Told
+  pub bench : Bench
+
+abbrev pub outcomeOf : Carried → Outcome
+outcomeOf r = record { told = verdictOf (r .verdict); bench = r .bench }
+
+-- "A flag-1 command is only stored .. A flag-0 command executes at once, also while a macro is open or running."
+abbrev pub cameraAfter : Camera → Command → Camera
+cameraAfter camera c = cond (c .flag) camera (executedOf camera (c .kind))
+
+abbrev pub effectOf : Bench → Command → Bench
+effectOf b c = record { camera = cameraAfter (b .camera) c; store = appliedOf (b .store) c }
+
+-- "A refused command changes no part of the state."
+abbrev pub outcomeFor : ℕ → Bench → Command → Outcome
+outcomeFor code b c = record { told = toldWith code (parFor code c); bench = cond (eqb code 0) (effectOf b c) b }
+
+-- Rows 8 to 19, on a decoded command.
+abbrev pub commandChecks : Bench → Command → List Check
+commandChecks b c = argChecks c ++ storeChecks (b .store) c
+
+-- Rows 11 to 19 alone, on a command that was read or judged.
+unfoldable pub permitted : Bench → Command → Outcome
+permitted b c = outcomeFor (firstOf (storeChecks (b .store) c)) b c
+
+-- "Carrying one out tries 27, then .. 8 to 19 if it is already decoded."
+abbrev pub carryChecks : Bench → Command → List Check
+carryChecks b c = soundCheck b ∷ commandChecks b c
+
+unfoldable pub carryCode : Bench → Command → ℕ
+carryCode b c = firstOf (carryChecks b c)
+
+unfoldable pub carryOut : Bench → Command → Outcome
+unfolding carryCode
+carryOut b c = outcomeFor (carryCode b c) b c
+
+-- The command that bytes say.
+abbrev pub said : List ℕ → Command
+said s = commandIn s (lengthOf s)
+
+-- Rows 1 to 19, on bytes.
+abbrev pub bytesChecks : Bench → List ℕ → List Check
+bytesChecks b s = readChecks s ++ storeChecks (b .store) (said s)
+
+-- Rows 1 to 19 on a bench that is known to be sound: what a run does with each command.
+unfoldable pub taken : Bench → List ℕ → Outcome
+taken b s = outcomeFor (firstOf (bytesChecks b s)) b (said s)
+
+-- "Carrying one out tries 27, then 1 to 19 from bytes": the first command alone.
+abbrev pub carryBytesChecks : Bench → List ℕ → List Check
+carryBytesChecks b s = soundCheck b ∷ bytesChecks b s
+
+unfoldable pub carryBytesCode : Bench → List ℕ → ℕ
+carryBytesCode b s = firstOf (carryBytesChecks b s)
+
+unfoldable pub carryOutBytes : Bench → List ℕ → Outcome
+unfolding carryBytesCode
+carryOutBytes b s = outcomeFor (carryBytesCode b s) b (said s)

@@ -1,0 +1,91 @@
+-- 01, "Two lists, one report": the kit's list, then the pupil's, a record to each command.
+use Prim.Native.Nat.{ℕ, _+_}
+use mathlib.Core.List.{List, [], _∷_, _++_}
+use mathlib.Core.Bool.{cond}
+use lib.ListN.{length}
+use lib.Dec.{ltb, eqb}
+use Rattle.words.specs.BigEndian.{written}
+use Rattle.wire.specs.Codes.{Check, _when_, firstOf}
+use Rattle.walk.specs.Walk.{rests}
+use Rattle.walk.specs.Shown.{tooLong}
+use Rattle.report.specs.Record.{recordBytes}
+use Rattle.bench.specs.declared.Bench.{Bench}
+use Rattle.bench.specs.declared.running.Ran.{Ran}
+use Rattle.bench.specs.declared.running.Begun.{Begun}
+use Rattle.bench.specs.Status.{soundCheck}
+use Rattle.bench.specs.Carry.{taken}
+
+-- What the commands of one list leave: the bench, and their records one after another.
+pub record Listed : Type 0 where
+  pub bench : Bench
+  pub records : List ℕ
+
+-- "Each command, accepted or not, gets an 8-byte record .. its number in its own list": the commands as each finds the list, numbered from
+-- a first number on.
+unfoldable pub runRests : Bench → ℕ → ℕ → List (List ℕ) → Listed
+runRests b sender number [] = record { bench = b; records = [] }
+runRests b sender number (r ∷ rs) =
+    let now = taken b r in
+    let later = runRests (now .bench) sender (number + 1) rs in
+    record { bench = later .bench; records = recordBytes sender (now .told .code) (now .told .par) number ++ later .records }
+
+-- One sender's list from its start.
+abbrev pub runList : Bench → ℕ → List ℕ → Listed
+runList b sender s = runRests b sender 1 (rests s)
+
+-- "The run executes the kit's list from its start, then the pupil's from its own start, even if the kit's ended early."
+abbrev pub kitPart : Bench → List ℕ → Listed
+kitPart b kit = runList b 1 kit
+
+abbrev pub pupilPart : Bench → List ℕ → List ℕ → Listed
+pupilPart b kit pupil = runList (kitPart b kit .bench) 2 pupil
+
+-- "Whole runs: 20, either list longer than 4,096 bytes; then 21, report room below 8,192 bytes; then 27".
+abbrev pub runChecks : Bench → List ℕ → List ℕ → List ℕ → List Check
+runChecks b kit pupil room = 20 when tooLong kit pupil ∷ 21 when ltb (length room) 8192 ∷ soundCheck b ∷ []
+
+unfoldable pub runCode : Bench → List ℕ → List ℕ → List ℕ → ℕ
+runCode b kit pupil room = firstOf (runChecks b kit pupil room)
+
+-- 01's number of each answer.
+abbrev pub begunCode : Begun → ℕ
+begunCode Begun.Done = 0
+begunCode Begun.ListTooLong = 20
+begunCode Begun.RoomTooSmall = 21
+begunCode Begun.Unsound = 27
+
+-- What a run answers: the code, the bench afterwards, and the number of records for each sender; counts of zero on a refusal.
+pub record RunTold : Type 0 where
+  pub code : ℕ
+  pub bench : Bench
+  pub kit : ℕ
+  pub pupil : ℕ
+
+abbrev pub ranOf : Ran → RunTold
+ranOf r = record { code = begunCode (r .begun); bench = r .bench; kit = r .kit; pupil = r .pupil }
+
+-- A refused run: the bench as it was, and counts of zero.
+abbrev pub refusedWith : Bench → Begun → Ran
+refusedWith b begun = record { bench = b; begun = begun; kit = 0; pupil = 0 }
+
+abbrev pub runFor : ℕ → Bench → List ℕ → List ℕ → RunTold
+runFor code b kit pupil =
+    record {
+      code = code;
+      bench = cond (eqb code 0) (pupilPart b kit pupil .bench) b;
+      kit = cond (eqb code 0) (length (rests kit)) 0;
+      pupil = cond (eqb code 0) (length (rests pupil)) 0;
+    }
+
+unfoldable pub runOf : Bench → List ℕ → List ℕ → List ℕ → RunTold
+unfolding runCode
+runOf b kit pupil room = runFor (runCode b kit pupil room) b kit pupil
+
+-- The records of both lists, one after another.
+abbrev pub reportOf : Bench → List ℕ → List ℕ → List ℕ
+reportOf b kit pupil = kitPart b kit .records ++ pupilPart b kit pupil .records
+
+-- The room afterwards: "Bytes after the last record stay"; all of it is as it was on a refusal.
+unfoldable pub roomAfter : Bench → List ℕ → List ℕ → List ℕ → List ℕ
+unfolding runCode
+roomAfter b kit pupil room = cond (eqb (runCode b kit pupil room) 0) (written (reportOf b kit pupil) room) room

@@ -1,0 +1,84 @@
+-- Laws of the store's meanings that the proofs of its functions share.
+use Prim.Native.Nat.{ℕ, _≤_, min}
+use mathlib.Core.Path.{_≡_, refl, sym}
+use mathlib.Core.List.{List, [], _∷_}
+use mathlib.Core.Bool.{Bool, true, false, not, _&&_, false≢true}
+use native.Mathlib.Omega.{arith}
+use lib.ListN.{length, getD, set, List·getD-eq-default}
+use lib.Seq.{set-out}
+use lib.Dec.{leb, ltb}
+use denote.Enum.Declared.{tagOf}
+use types.Run.{OneOf, miss}
+use borrow.Author.Tests.{lt-ltb, le-ltb, ltb-true, ltb-false, leb-true, leb-false}
+use Rattle.store.specs.declared.roles.Role.{Role}
+use Rattle.store.specs.Roles.{isOpen, isClose, isRun, isClear}
+use Rattle.store.specs.Slots.{bit}
+use Rattle.store.proofs.roles.Role.{the-type}
+
+-- Past the end of a list nothing is read, and nothing is written.
+pub read-past : {A : Type 0} (l : List A) (d : A) (m n : ℕ) → length l ≡ n → n ≤ m → d ≡ getD l m d
+read-past l d m n e h = sym (List·getD-eq-default l d (omega arith))
+
+pub set-past : {A : Type 0} (l : List A) (a : A) (m n : ℕ) → length l ≡ n → n ≤ m → l ≡ set l m a
+set-past l a m n e h = sym (set-out l m a (omega arith))
+
+-- Below is not at least.
+pub below-not : (a b : ℕ) → ltb a b ≡ not (leb b a)
+below-not a b = go (leb b a) refl
+  where
+    go : (t : Bool) → leb b a ≡ t → ltb a b ≡ not t
+    go true e = le-ltb a b (leb-true b a e)
+    go false e = lt-ltb a b (leb-false b a e)
+
+-- A bit is at most 1.
+pub bit-small : (t : Bool) → bit t ≤ 1
+bit-small false = omega arith
+bit-small true = omega arith
+
+-- A length that is told up to 601 is above 600 where the length is.
+pub over-capped : (n : ℕ) → ltb 600 (min 601 n) ≡ ltb 600 n
+over-capped n = go (ltb 600 n) refl
+  where
+    go : (t : Bool) → ltb 600 n ≡ t → ltb 600 (min 601 n) ≡ t
+    go true e = lt-ltb 600 (min 601 n) (omega (arith, ltb-true 600 n e))
+    go false e = le-ltb 600 (min 601 n) (omega (arith, ltb-false 600 n e))
+
+-- Both of two tests hold where their conjunction does.
+pub and-left : (a b : Bool) → (a && b) ≡ true → a ≡ true
+and-left true b e = refl
+and-left false b e = e
+
+pub and-right : (a b : Bool) → (a && b) ≡ true → b ≡ true
+and-right true b e = e
+and-right false b e = absurd (false≢true e)
+
+-- The tags of the roles that a test of roles does not pass, and that a role with such a tag does not.
+abbrev unopen : List ℕ
+unopen = 0 ∷ 2 ∷ 3 ∷ 4 ∷ 5 ∷ 6 ∷ []
+
+abbrev unclose : List ℕ
+unclose = 0 ∷ 1 ∷ 3 ∷ 4 ∷ 5 ∷ 6 ∷ []
+
+abbrev unrun : List ℕ
+unrun = 0 ∷ 1 ∷ 2 ∷ 4 ∷ 5 ∷ 6 ∷ []
+
+abbrev unclear : List ℕ
+unclear = 0 ∷ 1 ∷ 2 ∷ 3 ∷ 4 ∷ 5 ∷ []
+
+abbrev Fails : (Role → Bool) → List ℕ → Role → Type 0
+Fails test tags role = OneOf tags (tagOf the-type role) → false ≡ test role
+
+pub record OtherRole (role : Role) : Type 0 where
+  pub opens : Fails isOpen unopen role
+  pub closes : Fails isClose unclose role
+  pub runs : Fails isRun unrun role
+  pub clears : Fails isClear unclear role
+
+pub other-role : (role : Role) → OtherRole role
+other-role Role.Plain = record { opens = λ h. refl; closes = λ h. refl; runs = λ h. refl; clears = λ h. refl }
+other-role (Role.Open m) = record { opens = λ h. absurd (miss unopen 1 tt h); closes = λ h. refl; runs = λ h. refl; clears = λ h. refl }
+other-role Role.Close = record { opens = λ h. refl; closes = λ h. absurd (miss unclose 2 tt h); runs = λ h. refl; clears = λ h. refl }
+other-role (Role.Run m) = record { opens = λ h. refl; closes = λ h. refl; runs = λ h. absurd (miss unrun 3 tt h); clears = λ h. refl }
+other-role (Role.Wait n) = record { opens = λ h. refl; closes = λ h. refl; runs = λ h. refl; clears = λ h. refl }
+other-role Role.Stop = record { opens = λ h. refl; closes = λ h. refl; runs = λ h. refl; clears = λ h. refl }
+other-role Role.Clear = record { opens = λ h. refl; closes = λ h. refl; runs = λ h. refl; clears = λ h. absurd (miss unclear 6 tt h) }

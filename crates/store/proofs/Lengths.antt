@@ -1,0 +1,202 @@
+-- The length of a macro's written-out list by a table of the lengths below it: every entry adds its part, and the parts add up.
+use Prim.Native.Nat.{ℕ, zero, suc, _+_, _-_, _≤_, _<_, min}
+use mathlib.Core.Path.{_≡_, refl, sym, ap, _∙_, fun-ext}
+use mathlib.Core.List.{List, [], _∷_, _++_, append-assoc, append-nil}
+use mathlib.Core.Bool.{Bool, true, false, cond, _&&_}
+use native.Mathlib.Omega.{arith}
+use lib.ListN.{length, getD, set, replicate, length-append, length-set, length-replicate, List·getD-eq-default}
+use lib.Seq.{getD-set-same, getD-set-other}
+use lib.Dec.{ltb, eqb}
+use borrow.Author.Tests.{ltb-true, ltb-false, eq-eqb, ne-eqb, eqb-true, eqb-false}
+use Rattle.wire.specs.declared.kinds.Kind.{Kind}
+use Rattle.wire.specs.declared.kinds.Command.{Command}
+use Rattle.store.specs.declared.Store.{Store}
+use Rattle.store.specs.declared.roles.Role.{Role}
+use Rattle.store.specs.Roles.{roleOf}
+use Rattle.store.specs.Slots.{isClosed, entriesOf}
+use Rattle.store.specs.WrittenOut.{expandAs, expand, flatBelow, flat, handOver, seconds, writtenOut, cappedLength, lengthsTo}
+use Rattle.store.specs.Lookup.{TellsBelow, runSpan, spanIn, spansIn}
+
+-- The seconds of two lists one after another.
+over-append : (role : Role) (kind : Kind) (a b : List (List Kind)) → handOver role kind (a ++ b) ≡ handOver role kind a ++ b
+over-append Role.Plain kind a b = refl
+over-append (Role.Open m) kind a b = refl
+over-append Role.Close kind a b = refl
+over-append (Role.Run m) kind a b = refl
+over-append (Role.Wait n) kind a b = sym (append-assoc (replicate n []) a b)
+over-append Role.Stop kind a b = refl
+over-append Role.Clear kind a b = refl
+
+pub seconds-append : (xs ys : List Kind) → seconds (xs ++ ys) ≡ seconds xs ++ seconds ys
+unfolding seconds
+seconds-append [] ys = refl
+seconds-append (k ∷ ks) ys =
+    ap (λ l. handOver (roleOf k) k l) (seconds-append ks ys) ∙ over-append (roleOf k) k (seconds ks) (seconds ys)
+
+-- The seconds of one entry; `look` gives those of a RUN's target.
+abbrev pub partAs : (ℕ → List (List Kind)) → Kind → Role → List (List Kind)
+partAs look kind Role.Plain = (kind ∷ []) ∷ []
+partAs look kind (Role.Open m) = (kind ∷ []) ∷ []
+partAs look kind Role.Close = (kind ∷ []) ∷ []
+partAs look kind (Role.Run m) = look m
+partAs look kind (Role.Wait n) = replicate n []
+partAs look kind Role.Stop = (kind ∷ []) ∷ []
+partAs look kind Role.Clear = (kind ∷ []) ∷ []
+
+part-of : (look : ℕ → List Kind) (kind : Kind) (role : Role) → roleOf kind ≡ role
+    → seconds (expandAs look kind role) ≡ partAs (λ t. seconds (look t)) kind role
+unfolding seconds
+part-of look kind Role.Plain e = rw e
+part-of look kind (Role.Open m) e = rw e
+part-of look kind Role.Close e = rw e
+part-of look kind (Role.Run m) e = refl
+part-of look kind (Role.Wait n) e = rw e (append-nil (replicate n []))
+part-of look kind Role.Stop e = rw e
+part-of look kind Role.Clear e = rw e
+
+-- The seconds of several entries, one after another.
+unfoldable pub partsOf : (ℕ → List (List Kind)) → List Command → List (List Kind)
+partsOf look [] = []
+partsOf look (e ∷ es) = partAs look (e .kind) (roleOf (e .kind)) ++ partsOf look es
+
+seconds-expand : (look : ℕ → List Kind) (es : List Command) → seconds (expand look es) ≡ partsOf (λ t. seconds (look t)) es
+unfolding expand partsOf seconds
+seconds-expand look [] = refl
+seconds-expand look (e ∷ es) =
+    rw (
+      seconds-append (expandAs look (e .kind) (roleOf (e .kind))) (expand look es),
+      part-of look (e .kind) (roleOf (e .kind)) refl,
+      seconds-expand look es,
+    )
+
+-- More fuel changes nothing: a macro's list is the same below every larger number, and empty below a smaller one.
+flat-past : (closed : ℕ → Bool) (entries : ℕ → List Command) (n k : ℕ) → n ≤ k → flatBelow closed entries n k ≡ []
+unfolding flatBelow
+flat-past closed entries zero k h = refl
+flat-past closed entries (suc n) k h = rw (ne-eqb k n (omega arith), flatBelow) (flat-past closed entries n k (omega arith))
+
+flat-fuel : (closed : ℕ → Bool) (entries : ℕ → List Command) (n k : ℕ) → k < n → flatBelow closed entries n k ≡ flatBelow closed entries (suc k) k
+unfolding flatBelow
+flat-fuel closed entries zero k h = absurd (omega arith)
+flat-fuel closed entries (suc n) k h = step (λ below. flat-fuel closed entries n k below) (eqb k n) refl
+  where
+    step : (k < n → flatBelow closed entries n k ≡ flatBelow closed entries (suc k) k)
+        → (t : Bool) → eqb k n ≡ t → flatBelow closed entries (suc n) k ≡ flatBelow closed entries (suc k) k
+    step rest true e = ap (λ j. flatBelow closed entries (suc j) k) (sym (eqb-true k n e))
+    step rest false e = rw (e, flatBelow) (rest (omega (arith, eqb-false k n e)))
+
+-- The list of macro m: its entries, a RUN replaced where its target is closed and below.
+abbrev pub look : Store → ℕ → ℕ → List (List Kind)
+look s m t = cond (ltb t m && isClosed s t) (writtenOut s t) []
+
+look-below : (s : Store) (m t : ℕ)
+    → seconds (cond (isClosed s t) (flatBelow (isClosed s) (entriesOf s) m t) []) ≡ look s m t
+unfolding seconds writtenOut flat
+look-below s m t = go (isClosed s t) (ltb t m) refl
+  where
+    go : (closed below : Bool) → ltb t m ≡ below
+        → seconds (cond closed (flatBelow (isClosed s) (entriesOf s) m t) []) ≡ cond (below && closed) (writtenOut s t) []
+    go false false e = refl
+    go false true e = refl
+    go true false e = rw (flat-past (isClosed s) (entriesOf s) m t (ltb-false t m e))
+    go true true e = rw (flat-fuel (isClosed s) (entriesOf s) m t (ltb-true t m e))
+
+pub written-parts : (s : Store) (m : ℕ) → writtenOut s m ≡ partsOf (look s m) (entriesOf s m)
+unfolding writtenOut flat flatBelow
+written-parts s m =
+    rw (eq-eqb m m refl, flatBelow) (seconds-expand (λ t. cond (isClosed s t) (flatBelow (isClosed s) (entriesOf s) m t) []) (entriesOf s m)
+    ∙ ap (λ f. partsOf f (entriesOf s m)) (fun-ext (look-below s m)))
+
+-- Sums that are told up to 601.
+cap-sum : (a b x y : ℕ) → min 601 a ≡ min 601 x → min 601 b ≡ min 601 y → min 601 (a + b) ≡ min 601 (x + y)
+cap-sum a b x y p q = omega arith
+
+-- By a table that tells the lengths below m, an entry of macro m spans its seconds, and the entries together the list's.
+module _ (s : Store) (m : ℕ) (table : List ℕ) (told : TellsBelow s m table) where
+  run-told : (t : ℕ) → min 601 (runSpan (s .closed) table m t) ≡ min 601 (length (look s m t))
+  run-told t = go (ltb t m) (isClosed s t) refl
+    where
+      go : (below closed : Bool) → ltb t m ≡ below
+          → min 601 (cond (below && closed) (getD table t 0) 0) ≡ min 601 (length (cond (below && closed) (writtenOut s t) []))
+      go false false e = refl
+      go false true e = refl
+      go true false e = refl
+      go true true e = omega (arith, told t (ltb-true t m e))
+
+  pub span-told : (kind : Kind) (role : Role) → min 601 (spanIn (s .closed) table m role) ≡ min 601 (length (partAs (look s m) kind role))
+  span-told kind Role.Plain = refl
+  span-told kind (Role.Open n) = refl
+  span-told kind Role.Close = refl
+  span-told kind (Role.Run t) = run-told t
+  span-told kind (Role.Wait n) = rw length-replicate
+  span-told kind Role.Stop = refl
+  span-told kind Role.Clear = refl
+
+  spans-told : (es : List Command) → min 601 (spansIn (s .closed) table m es) ≡ min 601 (length (partsOf (look s m) es))
+  unfolding spansIn partsOf
+  spans-told [] = refl
+  spans-told (e ∷ es) =
+      cap-sum
+      (spanIn (s .closed) table m (roleOf (e .kind)))
+      (spansIn (s .closed) table m es)
+      (length (partAs (look s m) (e .kind) (roleOf (e .kind))))
+      (length (partsOf (look s m) es))
+      (span-told (e .kind) (roleOf (e .kind)))
+      (spans-told es)
+      ∙ ap (λ n. min 601 n) (sym (length-append (partAs (look s m) (e .kind) (roleOf (e .kind))) (partsOf (look s m) es)))
+
+  pub length-told : min 601 (spansIn (s .closed) table m (entriesOf s m)) ≡ cappedLength s m
+  length-told = spans-told (entriesOf s m) ∙ ap (λ l. min 601 (length l)) (sym (written-parts s m))
+
+-- The table of the lengths below n has a place for all eight macros, and tells those below n.
+length-lengthsTo : (s : Store) (n : ℕ) → length (lengthsTo s n) ≡ 8
+unfolding lengthsTo
+length-lengthsTo s zero = refl
+length-lengthsTo s (suc n) = rw length-set (length-lengthsTo s n)
+
+pub lengths-tell : (s : Store) (n : ℕ) → n ≤ 8 → TellsBelow s n (lengthsTo s n)
+unfolding lengthsTo
+lengths-tell s zero h j below = absurd (omega arith)
+lengths-tell s (suc n) h j below = step (λ under. lengths-tell s n (omega arith) j under) (eqb j n) refl
+  where
+    step : (j < n → getD (lengthsTo s n) j 0 ≡ cappedLength s j)
+        → (t : Bool) → eqb j n ≡ t → getD (set (lengthsTo s n) n (cappedLength s n)) j 0 ≡ cappedLength s j
+    step rest true e =
+        rw (eqb-true j n e) (getD-set-same (lengthsTo s n) n (cappedLength s n) 0 (omega (arith, length-lengthsTo s n)))
+    step rest false e =
+        getD-set-other (lengthsTo s n) n j (cappedLength s n) 0 (eqb-false j n e) ∙ rest (omega (arith, eqb-false j n e))
+
+pub length-in-table : (s : Store) (m : ℕ) (table : List ℕ) → m < 8 → table ≡ lengthsTo s (m + 1) → getD table m 0 ≡ cappedLength s m
+length-in-table s m table h is = rw is (lengths-tell s (m + 1) (omega arith) m (omega arith))
+
+-- The table with macro m's length added, by the entries' spans.
+pub lengths-more : (s : Store) (n m : ℕ) (table : List ℕ) → n ≤ 8 → m ≡ n - 1 → (n ≡ 0 → ⊥) → table ≡ lengthsTo s m
+    → set table m (min 601 (spansIn (s .closed) table m (entriesOf s m))) ≡ lengthsTo s n
+unfolding lengthsTo
+lengths-more s zero m table h e nonzero told = absurd (nonzero refl)
+lengths-more s (suc n) m table h e nonzero told =
+    rw (told, same, length-told s n (lengthsTo s n) (lengths-tell s n (omega arith))) refl
+  where
+    same : m ≡ n
+    same = omega arith
+
+-- A number that no macro has has no entries, and no seconds.
+entries-none : (s : Store) (m : ℕ) → length (s .counts) ≡ 8 → 8 ≤ m → entriesOf s m ≡ []
+unfolding entriesOf
+entries-none s m h past = rw (List·getD-eq-default (s .counts) 0 {n = m} (omega arith))
+
+pub written-none : (s : Store) (m : ℕ) → length (s .counts) ≡ 8 → 8 ≤ m → writtenOut s m ≡ []
+unfolding partsOf
+written-none s m h past = rw (written-parts, entries-none s m h past)
+
+-- One turn of the sum: what is summed so far and what the entries from here on span is the same before and after it.
+pub sum-turn : (closed : List Bool) (table : List ℕ) (m sum span next : ℕ) (e : Command) (es rest : List Command) (role : Role)
+    → es ≡ e ∷ rest → role ≡ roleOf (e .kind) → span ≡ spanIn closed table m role → next ≡ min 601 (sum + span)
+    → min 601 (sum + spansIn closed table m es) ≡ min 601 (next + spansIn closed table m rest)
+unfolding spansIn
+sum-turn closed table m sum span next e es rest role from is spans adds =
+    rw (from, ← is, ← spans) (omega arith)
+
+pub sum-end : (closed : List Bool) (table : List ℕ) (m sum : ℕ) (es : List Command) → es ≡ [] → sum + spansIn closed table m es ≡ sum
+unfolding spansIn
+sum-end closed table m sum es none = rw none (omega arith)

@@ -1,0 +1,92 @@
+-- What an accepted command does to the store, and what a second does.
+use Prim.Native.Nat.{ℕ, _-_, min}
+use mathlib.Core.List.{List, [], _∷_}
+use mathlib.Core.Bool.{Bool, true, false, cond, not, _&&_}
+use lib.ListN.{set, replicate}
+use lib.Dec.{ltb, eqb}
+use Rattle.wire.specs.declared.kinds.Kind.{Kind}
+use Rattle.wire.specs.declared.kinds.Command.{Command}
+use Rattle.store.specs.declared.Store.{Store}
+use Rattle.store.specs.declared.roles.Role.{Role}
+use Rattle.store.specs.declared.lookup.Handed.{Handed}
+use Rattle.store.specs.declared.Step.{Step}
+use Rattle.store.specs.Roles.{roleOf}
+use Rattle.store.specs.Slots.{emptySlot, idle, full, kept}
+use Rattle.store.specs.WrittenOut.{cappedLength, entryAt}
+
+abbrev pub storeWith : List Command → List ℕ → List Bool → ℕ → ℕ → ℕ → Store
+storeWith entries counts closed opened running left =
+    record { entries = entries; counts = counts; closed = closed; opened = opened; running = running; left = left }
+
+-- "Fresh: all numbers zero, .. no macro open, closed or running."
+abbrev pub freshSlots : List Command
+freshSlots = replicate 192 emptySlot
+
+abbrev pub freshStore : Store
+freshStore = storeWith freshSlots (replicate 8 0) (replicate 8 false) 255 255 0
+
+-- "A flag-1 command is only stored, as the open macro's next entry."
+abbrev pub appendedOf : Store → Command → Store
+appendedOf s c = cond (ltb (s .opened) 8 && not (full s (s .opened))) (kept s (s .opened) c) s
+
+-- "OPEN starts an empty macro"
+abbrev pub openedOf : Store → ℕ → Store
+openedOf s m = storeWith (s .entries) (set (s .counts) m 0) (s .closed) m (s .running) (s .left)
+
+-- "CLOSE fixes it until CLEAR"
+abbrev pub closedOf : Store → Store
+closedOf s = storeWith (s .entries) (s .counts) (set (s .closed) (s .opened) true) 255 (s .running) (s .left)
+
+-- "RUN makes its macro run from its first entry": all of its seconds are left.
+abbrev pub startedOf : Store → ℕ → Store
+startedOf s m = storeWith (s .entries) (s .counts) (s .closed) (s .opened) m (cappedLength s m)
+
+-- "STOP makes the bench idle"
+abbrev pub stoppedOf : Store → Store
+stoppedOf s = storeWith (s .entries) (s .counts) (s .closed) (s .opened) 255 0
+
+-- "CLEAR drops all macros, the open one too"
+abbrev pub clearedOf : Store → Store
+clearedOf s = storeWith (s .entries) (replicate 8 0) (replicate 8 false) 255 (s .running) (s .left)
+
+-- An executed command: plain ones are not the store's.
+abbrev pub executedAs : Store → Role → Store
+executedAs s Role.Plain = s
+executedAs s (Role.Open m) = openedOf s m
+executedAs s Role.Close = closedOf s
+executedAs s (Role.Run m) = startedOf s m
+executedAs s (Role.Wait n) = s
+executedAs s Role.Stop = stoppedOf s
+executedAs s Role.Clear = clearedOf s
+
+-- The effect of an accepted command.
+unfoldable pub appliedOf : Store → Command → Store
+appliedOf s c = cond (c .flag) (appendedOf s c) (executedAs s (roleOf (c .kind)))
+
+-- What was handed over, as a list of none or one.
+abbrev pub handedOf : Handed → List Kind
+handedOf Handed.Nothing = []
+handedOf (Handed.Over kind) = kind ∷ []
+
+-- "if a macro runs, the next entry of its written-out list is handed over ..": of L seconds with `left` left, entry L - left.
+abbrev pub nextEntry : Store → List Kind
+nextEntry s = cond (idle s) [] (entryAt s (s .running) (cappedLength s (s .running) - s .left))
+
+-- ".. after the last one the bench is idle."
+abbrev pub countedDown : Store → Store
+countedDown s =
+    storeWith (s .entries) (s .counts) (s .closed) (s .opened) (cond (eqb (s .left - 1) 0) 255 (s .running)) (s .left - 1)
+
+abbrev pub afterSecond : Store → Store
+afterSecond s = cond (idle s) s (countedDown s)
+
+-- A second's step: the store, and what was handed over.
+pub record Stepped : Type 0 where
+  pub store : Store
+  pub handed : List Kind
+
+abbrev pub stepOf : Step → Stepped
+stepOf r = record { store = r .store; handed = handedOf (r .handed) }
+
+unfoldable pub steppedOf : Store → Stepped
+steppedOf s = record { store = afterSecond s; handed = nextEntry s }

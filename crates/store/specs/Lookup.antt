@@ -1,0 +1,61 @@
+-- The written-out list of a macro by a table of lengths, without writing it out: what one entry adds to it, and which entry covers a second.
+use Prim.Native.Nat.{ℕ, _+_, _-_, _<_}
+use mathlib.Core.Path.{_≡_}
+use mathlib.Core.List.{List, [], _∷_}
+use mathlib.Core.Bool.{Bool, true, false, cond, _&&_}
+use lib.ListN.{getD}
+use lib.Dec.{ltb}
+use Rattle.wire.specs.declared.kinds.Kind.{Kind}
+use Rattle.wire.specs.declared.kinds.Command.{Command}
+use Rattle.store.specs.declared.Store.{Store}
+use Rattle.store.specs.declared.roles.Role.{Role}
+use Rattle.store.specs.declared.lookup.Covering.{Covering}
+use Rattle.store.specs.Roles.{roleOf}
+use Rattle.store.specs.WrittenOut.{cappedLength}
+
+-- A table that tells the lengths of the macros below m.
+abbrev pub TellsBelow : Store → ℕ → List ℕ → Type 0
+TellsBelow s m table = (j : ℕ) → j < m → getD table j 0 ≡ cappedLength s j
+
+-- The seconds of a RUN in macro m: those of its target where that is a closed macro with a smaller number, none otherwise.
+abbrev pub runSpan : List Bool → List ℕ → ℕ → ℕ → ℕ
+runSpan closed table m target = cond (ltb target m && getD closed target false) (getD table target 0) 0
+
+-- The seconds of an entry of macro m.
+abbrev pub spanIn : List Bool → List ℕ → ℕ → Role → ℕ
+spanIn closed table m Role.Plain = 1
+spanIn closed table m (Role.Open n) = 1
+spanIn closed table m Role.Close = 1
+spanIn closed table m (Role.Run target) = runSpan closed table m target
+spanIn closed table m (Role.Wait n) = n
+spanIn closed table m Role.Stop = 1
+spanIn closed table m Role.Clear = 1
+
+-- The seconds of several entries of macro m.
+unfoldable pub spansIn : List Bool → List ℕ → ℕ → List Command → ℕ
+spansIn closed table m [] = 0
+spansIn closed table m (e ∷ es) = spanIn closed table m (roleOf (e .kind)) + spansIn closed table m es
+
+-- What covers second k, from 0, of an entry: nothing in a WAIT, a second of its target in a RUN, the entry itself otherwise.
+abbrev pub coverAs : Role → Kind → ℕ → Covering
+coverAs Role.Plain kind k = Covering.Entry kind
+coverAs (Role.Open m) kind k = Covering.Entry kind
+coverAs Role.Close kind k = Covering.Entry kind
+coverAs (Role.Run target) kind k = Covering.Within target k
+coverAs (Role.Wait n) kind k = Covering.Nothing
+coverAs Role.Stop kind k = Covering.Entry kind
+coverAs Role.Clear kind k = Covering.Entry kind
+
+-- What covers second k, from 0, of several entries of macro m.
+unfoldable pub coverIn : List Bool → List ℕ → ℕ → List Command → ℕ → Covering
+coverIn closed table m [] k = Covering.Nothing
+coverIn closed table m (e ∷ es) k =
+    cond (ltb k (spanIn closed table m (roleOf (e .kind))))
+    (coverAs (roleOf (e .kind)) (e .kind) k)
+    (coverIn closed table m es (k - spanIn closed table m (roleOf (e .kind))))
+
+-- What the lookup of second k in macro m is handed.
+pub record Asked (s : Store) (m k : ℕ) (table : List ℕ) : Type 0 where
+  pub number : m < 8
+  pub within : k < 601
+  pub told : TellsBelow s m table

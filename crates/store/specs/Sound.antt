@@ -1,0 +1,56 @@
+-- The store's part of a sound state, clause by clause.
+use Prim.Native.Nat.{ℕ, zero, suc}
+use mathlib.Core.List.{List, [], _∷_}
+use mathlib.Core.Bool.{Bool, true, false, cond, not, _&&_, _||_}
+use lib.ListN.{length}
+use lib.Dec.{leb, ltb, eqb}
+use Rattle.wire.specs.declared.kinds.Command.{Command}
+use Rattle.wire.specs.Judge.{judgeCode}
+use Rattle.store.specs.declared.Store.{Store}
+use Rattle.store.specs.Roles.{roleOf, isRun, numberOf}
+use Rattle.store.specs.Slots.{countOf, isClosed, idle, entriesOf}
+use Rattle.store.specs.WrittenOut.{writtenOut}
+
+-- A test of every number below n, and of every element.
+unfoldable pub allBelow : ℕ → (ℕ → Bool) → Bool
+allBelow zero test = true
+allBelow (suc n) test = allBelow n test && test n
+
+unfoldable pub allOf : (Command → Bool) → List Command → Bool
+allOf test [] = true
+allOf test (c ∷ cs) = test c && allOf test cs
+
+-- "each entry is a flag-1 command that passes 7 to 10 and, for a RUN, 17 and 18 as in its own macro"
+abbrev pub runHolds : Store → ℕ → Command → Bool
+runHolds s m e =
+    not (isRun (roleOf (e .kind))) || (ltb (numberOf (roleOf (e .kind))) m && isClosed s (numberOf (roleOf (e .kind))))
+
+abbrev pub entryHolds : Store → ℕ → Command → Bool
+entryHolds s m e = e .flag && eqb (judgeCode e) 0 && runHolds s m e
+
+abbrev pub entriesHold : Store → ℕ → Bool
+entriesHold s m = allOf (entryHolds s m) (entriesOf s m)
+
+-- "each closed one has 1 to 24 and a length of 1 to 600"
+abbrev pub closedHolds : Store → ℕ → Bool
+closedHolds s m =
+    leb 1 (countOf s m)
+    && leb (countOf s m) 24
+    && leb 1 (length (writtenOut s m))
+    && leb (length (writtenOut s m)) 600
+    && entriesHold s m
+
+-- "the open macro has at most 24 entries"
+abbrev pub openHolds : Store → ℕ → Bool
+openHolds s m = leb (countOf s m) 24 && entriesHold s m
+
+-- A macro that is neither closed nor open is not judged.
+abbrev pub macroHolds : Store → ℕ → Bool
+macroHolds s m = cond (isClosed s m) (closedHolds s m) (cond (eqb (s .opened) m) (openHolds s m) true)
+
+-- "a running macro is closed with 1 to its length seconds left"
+abbrev pub runningHolds : Store → Bool
+runningHolds s = idle s || (isClosed s (s .running) && leb 1 (s .left) && leb (s .left) (length (writtenOut s (s .running))))
+
+unfoldable pub storeSound : Store → Bool
+storeSound s = allBelow 8 (macroHolds s) && runningHolds s

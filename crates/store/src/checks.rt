@@ -1,0 +1,150 @@
+// Rows 11 to 19 of the codes, each as a test on the few numbers that it looks at.
+ghost use mathlib.Core.Path.{_≡_};
+ghost use Rattle.wire.specs.Codes.{firstOf};
+ghost use Rattle.store.specs.Checks.{codeOf, toldPermit, row11, row12, row13, row14, row17, row18, row19, entryChecks};
+use super::ENTRIES;
+use super::NONE;
+use super::roles::Role;
+use super::roles::is_clear;
+use super::roles::is_close;
+use super::roles::is_open;
+use super::roles::is_run;
+use super::roles::number_of;
+use super::slots::closed_at;
+
+pub enum Denial {
+    NoneOpen,
+    AnotherOpen,
+    AlreadyClosed,
+    NoEntries,
+    TooLong,
+    NoSlot,
+    NotBelow,
+    NotClosed,
+    Running,
+}
+
+pub enum Permit {
+    Granted,
+    Denied(Denial),
+}
+
+// The code of a denial.
+pub fn code_of(denial: Denial) -> u8
+    ensures { λ r. ⌜ r ≡ codeOf denial ⌝ }
+{
+    match denial {
+        Denial::NoneOpen => 11,
+        Denial::AnotherOpen => 12,
+        Denial::AlreadyClosed => 13,
+        Denial::NoEntries => 14,
+        Denial::TooLong => 15,
+        Denial::NoSlot => 16,
+        Denial::NotBelow => 17,
+        Denial::NotClosed => 18,
+        Denial::Running => 19,
+    }
+}
+
+// Row 11: flag 1, or CLOSE, and no macro open.
+pub fn lacks_open(flag: bool, role: Role, opened: u8) -> bool
+    ensures { λ r. ⌜ r ≡ row11 flag role opened ⌝ }
+{
+    if flag {
+        return opened == NONE;
+    }
+    if is_close(role) {
+        opened == NONE
+    } else {
+        false
+    }
+}
+
+// Row 12: OPEN while one is open.
+pub fn opens_another(role: Role, opened: u8) -> bool
+    ensures { λ r. ⌜ r ≡ row12 role opened ⌝ }
+{
+    if is_open(role) { opened != NONE } else { false }
+}
+
+// Row 13: OPEN of a closed macro.
+pub fn opens_closed(role: Role, closed: [bool; 8]) -> bool
+    ensures { λ r. ⌜ r ≡ row13 role closed ⌝ }
+{
+    if is_open(role) {
+        closed_at(closed, number_of(role))
+    } else {
+        false
+    }
+}
+
+// Row 14: CLOSE of a macro without entries.
+pub fn closes_empty(role: Role, count: u8) -> bool
+    ensures { λ r. ⌜ r ≡ row14 role count ⌝ }
+{
+    if is_close(role) { count == 0 } else { false }
+}
+
+// Row 17: appended RUN whose number is not below the open macro's.
+fn runs_upward(flag: bool, role: Role, opened: u8) -> bool
+    ensures { λ r. ⌜ r ≡ row17 flag role opened ⌝ }
+{
+    if flag {
+        if is_run(role) {
+            return opened <= number_of(role);
+        }
+    }
+    false
+}
+
+// Row 18: RUN of a macro not closed.
+fn runs_unclosed(role: Role, closed: [bool; 8]) -> bool
+    ensures { λ r. ⌜ r ≡ row18 role closed ⌝ }
+{
+    if is_run(role) {
+        !closed_at(closed, number_of(role))
+    } else {
+        false
+    }
+}
+
+// Row 19: executed RUN, or CLEAR, while a macro runs.
+fn starts_busy(flag: bool, role: Role, running: u8) -> bool
+    ensures { λ r. ⌜ r ≡ row19 flag role running ⌝ }
+{
+    if running == NONE {
+        return false;
+    }
+    if is_clear(role) {
+        return true;
+    }
+    if flag { false } else { is_run(role) }
+}
+
+// Rows 16 to 19, in their order.
+pub fn permits_entry(
+    flag: bool,
+    role: Role,
+    count: u8,
+    closed: [bool; 8],
+    opened: u8,
+    running: u8,
+) -> Permit
+    ensures { λ r. ⌜ toldPermit r ≡ firstOf (entryChecks flag role count closed opened running) ⌝ }
+{
+    if flag {
+        if ENTRIES <= count as usize {
+            return Permit::Denied(Denial::NoSlot);
+        }
+    }
+    if runs_upward(flag, role, opened) {
+        return Permit::Denied(Denial::NotBelow);
+    }
+    if runs_unclosed(role, closed) {
+        return Permit::Denied(Denial::NotClosed);
+    }
+    if starts_busy(flag, role, running) {
+        return Permit::Denied(Denial::Running);
+    }
+    Permit::Granted
+}

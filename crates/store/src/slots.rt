@@ -1,0 +1,109 @@
+// The slots of the macros. Only `entry_at` and `keep` know where the entries of a macro lie.
+ghost use Prim.Native.Nat.{_<_, _+_, _*_};
+ghost use mathlib.Core.Path.{_≡_};
+ghost use mathlib.Core.Bool.{true, false, not, _&&_};
+ghost use lib.ListN.{getD, set};
+ghost use lib.Dec.{ltb, leb};
+ghost use Rattle.store.specs.Slots.{emptySlot, countOf, kept, bit, marksOf};
+use super::ENTRIES;
+use super::MACROS;
+use super::Store;
+use wire::Command;
+
+// The entries that a macro has; none for a number that no macro has.
+pub fn count_at(counts: [u8; 8], m: u8) -> u8
+    ensures { λ r. ⌜ r ≡ getD counts m 0 ⌝ }
+{
+    let at = m as usize;
+    if at < MACROS { counts[at] } else { 0 }
+}
+
+pub fn closed_at(closed: [bool; 8], m: u8) -> bool
+    ensures { λ r. ⌜ r ≡ getD closed m false ⌝ }
+{
+    let at = m as usize;
+    if at < MACROS { closed[at] } else { false }
+}
+
+// Is there a slot for one more entry of macro m?
+pub fn has_slot(counts: [u8; 8], m: u8) -> bool
+    ensures { λ r. ⌜ r ≡ (ltb m 8 && not (leb 24 (getD counts m 0))) ⌝ }
+{
+    let at = m as usize;
+    if at < MACROS {
+        (counts[at] as usize) < ENTRIES
+    } else {
+        false
+    }
+}
+
+// The counts with macro m emptied.
+pub fn emptied(counts: [u8; 8], m: u8) -> [u8; 8]
+    ensures { λ r. ⌜ r ≡ set counts m 0 ⌝ }
+{
+    let mut next = counts;
+    let at = m as usize;
+    if at < MACROS {
+        next[at] = 0;
+    }
+    next
+}
+
+// The marks with macro m closed.
+pub fn marked(closed: [bool; 8], m: u8) -> [bool; 8]
+    ensures { λ r. ⌜ r ≡ set closed m true ⌝ }
+{
+    let mut next = closed;
+    let at = m as usize;
+    if at < MACROS {
+        next[at] = true;
+    }
+    next
+}
+
+// The store with one entry more in macro m.
+pub fn keep(store: Store, m: u8, command: Command) -> Store
+    requires { ⌜ (m < 8) × (countOf store m < 24) ⌝ }
+    ensures { λ r. ⌜ r ≡ kept store m command ⌝ }
+{
+    let at = m as usize;
+    let mut entries = store.entries;
+    let mut counts = store.counts;
+    let count = counts[at];
+    entries[at * ENTRIES + (count as usize)] = command;
+    counts[at] = count + 1;
+    Store {
+        entries,
+        counts,
+        ..store
+    }
+}
+
+// The slot of entry i of macro m. A loop reads its slots itself: handing the store to a reader would copy all of it for each entry.
+pub fn slot_of(m: usize, i: usize) -> usize
+    requires { ⌜ (m < 8) × (i < 24) ⌝ }
+    ensures { λ r. ⌜ r ≡ m * 24 + i ⌝ }
+{
+    m * ENTRIES + i
+}
+
+fn bit_of(on: bool) -> u8
+    ensures { λ r. ⌜ r ≡ bit on ⌝ }
+{
+    if on { 1 } else { 0 }
+}
+
+// The marks as a byte, bit m for macro m.
+pub fn byte_of(closed: [bool; 8]) -> u8
+    ensures { λ r. ⌜ r ≡ marksOf closed ⌝ }
+{
+    let low = bit_of(closed[0])
+        + bit_of(closed[1]) * 2
+        + bit_of(closed[2]) * 4
+        + bit_of(closed[3]) * 8;
+    let high = bit_of(closed[4]) * 16
+        + bit_of(closed[5]) * 32
+        + bit_of(closed[6]) * 64
+        + bit_of(closed[7]) * 128;
+    low + high
+}
