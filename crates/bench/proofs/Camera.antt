@@ -6,12 +6,13 @@ use mathlib.Core.Bool.{Bool, true, false, cond, _&&_, _||_}
 use native.Mathlib.Omega.{arith}
 use lib.Dec.{leb, eqb}
 use borrow.Author.Tests.{leb-true, eqb-true, eqb-false, not-false, le-leb, ne-eqb}
+use Rattle.words.proofs.Tests.{both}
 use Rattle.wire.specs.declared.table.Form.{Form}
 use Rattle.wire.specs.declared.kinds.Kind.{Kind}
 use Rattle.wire.specs.declared.kinds.Command.{Command}
 use Rattle.wire.specs.Judge.{badOf, badIn, argChecks, judgeCode}
 use Rattle.wire.proofs.Order.{due-none}
-use Rattle.frame.proofs.Laws.{both, region-within, mode-within}
+use Rattle.frame.proofs.Laws.{region-within, mode-within}
 use Rattle.camera.specs.declared.Series.{Series}
 use Rattle.camera.specs.declared.Camera.{Camera}
 use Rattle.camera.specs.Series.{startedOf, countedOf, timeAfter, fallenOf, secondOf, nextHolds}

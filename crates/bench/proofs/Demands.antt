@@ -1,13 +1,13 @@
 -- The three demands, of the meanings that the promises in src/lib.rt name: `carry_out` answers `carryOut`, `carry_out_bytes` `carryOutBytes`,
 -- `second` `secondAt` and `status` `statusAt` (specs/Carry, Second, Status). What can happen to a bench is a list of events (specs/Events).
--- Read the statements here; what they rest on is proved in Rows, Sound and MacroRun.
-use Prim.Native.Nat.{ℕ, _+_, _-_, _≤_}
-use mathlib.Core.Path.{_≡_, refl, _∙_}
+-- Read the statements here; what they rest on is proved in Rows, Sound, MacroRun and Report.
+use Prim.Native.Nat.{ℕ, _+_, _-_, _≤_, _<_}
+use mathlib.Core.Path.{_≡_, refl, sym, _∙_}
 use mathlib.Core.Logic.{_≢_}
-use mathlib.Core.List.{List, [], _∷_, _++_}
+use mathlib.Core.List.{List, [], _∷_, _++_, map}
 use mathlib.Core.Bool.{Bool, true, false, cond}
 use native.Mathlib.Omega.{arith}
-use lib.ListN.{length, getD, drop}
+use lib.ListN.{length, getD, take, drop}
 use lib.Dec.{ltb}
 use borrow.Author.Tests.{ne-eqb}
 use Rattle.words.specs.BigEndian.{byteAt, halfAt}
@@ -21,6 +21,8 @@ use Rattle.frame.specs.Bytes.{frameBytes}
 use Rattle.frame.specs.Answers as frames
 use Rattle.frame.proofs.Answers.{takenAs}
 use Rattle.frame.proofs.RoundTrip.{running-byte, left-bytes, read-written}
+use Rattle.walk.specs.Walk.{rests}
+use Rattle.walk.specs.Shown.{listOf, shownOf}
 use Rattle.store.specs.Roles.{isRun}
 use Rattle.store.specs.Slots.{isClosed}
 use Rattle.store.specs.WrittenOut.{writtenOut}
@@ -29,11 +31,15 @@ use Rattle.bench.specs.declared.Bench.{Bench}
 use Rattle.bench.specs.Status.{freshBench, statusOf, benchSound, statusAt}
 use Rattle.bench.specs.Carry.{Outcome, effectOf, commandChecks, carryCode, carryOut, bytesChecks, carryBytesCode, carryOutBytes}
 use Rattle.bench.specs.Second.{secondAt}
-use Rattle.bench.specs.Events.{Event, second, afterOne, after, Reached, secondsIn, isStop, acceptsAny}
+use Rattle.bench.specs.Run.{runChecks, runOf, roomAfter}
+use Rattle.bench.specs.Events.{Event, bytes, second, afterOne, after, Reached, secondsIn, isStop, acceptsAny}
 use Rattle.bench.proofs.Rows.{command-order, bytes-order, command-most, bytes-most, command-unsound, bytes-unsound}
 use Rattle.bench.proofs.Sound.{GoodBench, good-store, fresh-sound, event-keeps, after-keeps, reached-sound}
 use Rattle.bench.proofs.Sound.{second-answers, status-answers, status-rules, status-written}
 use Rattle.bench.proofs.MacroRun.{runCommand, stays-idle, idle-hands, run-begins, run-accepted, run-accepted-bytes, begun-sound}
+use Rattle.bench.proofs.Outcomes.{sound-bytes}
+use Rattle.bench.proofs.Report.{Carries, restAt, recordAt, eventsOf, Untouched, record-carries, kit-record, pupil-record, kit-verdict, pupil-verdict}
+use Rattle.bench.proofs.Report.{run-leaves, run-reaches, run-order, refused-leaves, shown-judged}
 use Rattle.bench.proofs.MacroRun.{now-runs, now-hands, next-says, next-idle}
 
 -- ## Soundness
@@ -69,6 +75,13 @@ sound-answers b good =
       written = status-written b good;
       read-back = read-written (statusOf b) (status-rules b good);
     }
+
+-- Soundness in the form that whole runs ask for.
+sound-bench : (b : Bench) → GoodBench b → benchSound b ≡ true
+sound-bench b good = good .sound
+
+bytes-keep : (b : Bench) (s : List ℕ) → GoodBench b → GoodBench (carryOutBytes b s .bench)
+bytes-keep b s good = event-keeps b good (bytes s)
 
 -- ## Demand 1: "a refused command leaves the bench as it was"
 
@@ -221,3 +234,44 @@ demand-3-bytes b r free m closed s read = rw (run-accepted-bytes b (reached-soun
 -- And of any idle bench that is sound: it stays idle until a RUN is accepted, whatever else happens.
 pub demand-3-idle : (b : Bench) → GoodBench b → b .store .running ≡ 255 → (es : List Event) → acceptsAny isRun b es ≡ false → Idle (after b es)
 demand-3-idle b good free es none = idles (after b es) (after-keeps b good es) (stays-idle b good free es none)
+
+-- ## Whole runs
+
+-- A run is no more than its commands, one after another, each an event from bytes (none where the run is refused). So a run may stand among the events of
+-- all that is said above, a RUN or a STOP accepted in the middle of a list included, and the bench that it leaves is reached and sound.
+pub run-is-its-commands : (b : Bench) → GoodBench b → (kit pupil room : List ℕ) → runOf b kit pupil room .bench ≡ after b (eventsOf b kit pupil room)
+run-is-its-commands b good kit pupil room = run-leaves GoodBench sound-bench bytes-keep b good kit pupil room
+
+pub run-stays-reached : (b : Bench) → Reached b → (kit pupil room : List ℕ) → Reached (runOf b kit pupil room .bench)
+run-stays-reached b r kit pupil room = run-reaches GoodBench sound-bench bytes-keep b (reached-sound b r) kit pupil room r
+
+-- Demand 1 for runs: a code other than 0 leaves the bench and every lent byte, with counts of zero.
+pub demand-1-run : (b : Bench) (kit pupil room : List ℕ) → runOf b kit pupil room .code ≢ 0 → Untouched b kit pupil room
+demand-1-run b kit pupil room refused = refused-leaves b kit pupil room refused
+
+-- Demand 2 for runs: the code is the first of 20, 21 and 27 that is due.
+pub demand-2-run : (b : Bench) (kit pupil room : List ℕ) → Order (runChecks b kit pupil room) (runOf b kit pupil room .code)
+demand-2-run b kit pupil room = run-order b kit pupil room
+
+-- "with the sender's own line number": in the room after a run that was carried out, record k + 1 of a sender carries that sender, the verdict on the
+-- command at place k of that sender's own list, as carrying it out gives it in the state that the commands before it left, and the number k + 1.
+pub demand-2-kit : (b : Bench) → GoodBench b → (kit pupil room : List ℕ) → runOf b kit pupil room .code ≡ 0 → (k : ℕ) → k < length (rests kit)
+    → Carries (recordAt (roomAfter b kit pupil room) k) 1 (carryOutBytes (after b (map bytes (take k (rests kit)))) (restAt kit k) .told) (k + 1)
+demand-2-kit b good kit pupil room accepted k there =
+    rw (kit-record b kit pupil room accepted k there, kit-verdict GoodBench sound-bench bytes-keep b good kit pupil k)
+    (record-carries 1 (carryOutBytes (after b (map bytes (take k (rests kit)))) (restAt kit k) .told) (k + 1))
+
+pub demand-2-pupil : (b : Bench) → GoodBench b → (kit pupil room : List ℕ) → runOf b kit pupil room .code ≡ 0 → (k : ℕ) → k < length (rests pupil)
+    → Carries (recordAt (roomAfter b kit pupil room) (length (rests kit) + k)) 2
+    (carryOutBytes (after b (map bytes (rests kit ++ take k (rests pupil)))) (restAt pupil k) .told) (k + 1)
+demand-2-pupil b good kit pupil room accepted k there =
+    rw (pupil-record b kit pupil room accepted k there, pupil-verdict GoodBench sound-bench bytes-keep b good kit pupil k)
+    (record-carries 2 (carryOutBytes (after b (map bytes (rests kit ++ take k (rests pupil)))) (restAt pupil k) .told) (k + 1))
+
+-- The bytes shown for a sender and number are the very bytes that the record judged: alone they get the same verdict and leave the same bench.
+pub shown-are-judged : (kit pupil : List ℕ) → length kit ≤ 4096 → length pupil ≤ 4096 → (b : Bench) → benchSound b ≡ true → (sender k : ℕ)
+    → carryOutBytes b (shownOf kit pupil sender (k + 1)) ≡ carryOutBytes b (restAt (listOf kit pupil sender) k)
+shown-are-judged kit pupil kit-short pupil-short b sound sender k =
+    sym (sound-bytes b (shownOf kit pupil sender (k + 1)) sound)
+    ∙ shown-judged kit pupil kit-short pupil-short b sender k
+    ∙ sound-bytes b (restAt (listOf kit pupil sender) k) sound

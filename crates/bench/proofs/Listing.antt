@@ -104,11 +104,14 @@ module _ (b₀ : Bench) (sender : ℕ) (list room₀ room : List ℕ) (b : Bench
         let long = records-long (outcome .bench) sender (n + 1 + 1) (rests (drop (at + span) list)) in
         written-both own (later .records) (drop (n * 8) room) (omega (arith, size, length-drop (n * 8) room))
 
+    whole : length (putMid (n * 8) (length room - n * 8) room part) ≡ length room
+    whole =
+        ap length placed
+        ∙ length-append (take (n * 8) room ++ own) beyond
+        ∙ omega (arith, front, size, length-drop (n * 8) room, length-drop 8 (drop (n * 8) room))
+
     pub turn : Behind b₀ sender list room₀ (putMid (n * 8) (length room - n * 8) room part) (outcome .bench) (at + span) (n + 1)
     turn =
-        let whole : length (putMid (n * 8) (length room - n * 8) room part) ≡ length room =
-        ap length placed ∙ length-append (take (n * 8) room ++ own) beyond
-        ∙ omega (arith, front, size, length-drop (n * 8) room, length-drop 8 (drop (n * 8) room)) in
         record {
           within = here .ends;
           same = whole ∙ behind .same;

@@ -2,11 +2,12 @@
 use Prim.Native.Nat.{ℕ, suc, _+_, _-_, _≤_, _<_}
 use mathlib.Core.Path.{_≡_, refl, sym, ap, _∙_, subst}
 use mathlib.Core.List.{List, [], _∷_, _++_}
-use mathlib.Core.Bool.{Bool, true, false, cond, _||_, true≢false}
+use mathlib.Core.Bool.{Bool, true, false, cond}
 use native.Mathlib.Omega.{arith}
 use lib.ListN.{length, getD}
 use lib.Dec.{ltb, eqb}
 use borrow.Author.Tests.{ltb-true, ltb-false, le-ltb, le-leb, eq-eqb}
+use Rattle.words.proofs.Tests.{neither}
 use Rattle.wire.specs.declared.kinds.Kind.{Kind}
 use Rattle.wire.specs.declared.kinds.Command.{Command}
 use Rattle.wire.specs.declared.decoding.Reading.{Reading}
@@ -26,11 +27,6 @@ use Rattle.bench.specs.Second.{secondAt}
 use Rattle.bench.specs.Events.{Event, command, bytes, second, afterOne, after, secondsIn, isStop, accepts, acceptsAny}
 use Rattle.bench.proofs.Outcomes.{carry-code, read-then, carry-bytes-code}
 use Rattle.bench.proofs.Sound.{GoodBench, good-store, effect-keeps, Takes, by-command, by-bytes, second-is, event-keeps, after-keeps}
-
--- Two tests of which neither holds.
-neither : (a b : Bool) → (a || b) ≡ false → (a ≡ false) × (b ≡ false)
-neither false b e = (refl, e)
-neither true b e = absurd (true≢false e)
 
 -- Macro m runs on bench b with the list w, of which k seconds are over.
 abbrev Runs : ℕ → List (List Kind) → ℕ → Bench → Type 0

@@ -3,17 +3,15 @@
 use Prim.Native.Nat.{ℕ}
 use mathlib.Core.Path.{_≡_, refl, sym, ap, _∙_}
 use mathlib.Core.List.{List, [], _∷_}
-use mathlib.Core.Bool.{Bool, true, false, cond}
+use mathlib.Core.Bool.{Bool, true, false}
 use lib.Dec.{eqb}
 use borrow.Author.Tests.{eqb-true}
-use Rattle.wire.specs.declared.kinds.Command.{Command}
 use Rattle.wire.specs.declared.decoding.Reading.{Reading}
 use Rattle.wire.specs.Codes.{firstOf}
-use Rattle.wire.specs.Judge.{toldWith, parFor}
 use Rattle.wire.specs.Read.{Answer, answerOf, answerFor, readCode, readOf}
 use Rattle.walk.proofs.Shows.{first, own-read}
 use Rattle.bench.specs.declared.Bench.{Bench}
-use Rattle.bench.specs.Carry.{Outcome, outcomeFor, permitted, said, bytesChecks, taken}
+use Rattle.bench.specs.Carry.{Outcome, permitted, said, bytesChecks, taken}
 use Rattle.bench.proofs.Outcomes.{left, read-then, read-passed}
 
 -- The outcome, from what reading said.

@@ -3,28 +3,30 @@
 use Prim.Native.Nat.{ℕ, zero, suc, _+_, _*_, _≤_, _<_}
 use mathlib.Core.Path.{_≡_, refl, sym, ap, _∙_}
 use mathlib.Core.List.{List, [], _∷_, _++_, append-assoc, map}
-use mathlib.Core.Bool.{Bool, true, false, cond, not, _||_}
+use mathlib.Core.Bool.{Bool, true, false, cond}
 use native.Mathlib.Omega.{arith}
-use lib.ListN.{length, getD, take, drop, length-append, length-drop}
-use lib.Seq.{drop-drop, take-append-le, drop-append-le, drop-append-add, drop-at}
+use lib.ListN.{length, getD, take, drop, length-append}
+use lib.Seq.{drop-drop, drop-append-add, drop-at}
 use lib.Dec.{eqb, ltb}
-use borrow.Author.Tests.{ltb-false, ne-eqb, not-false, eqb-true}
-use Rattle.words.specs.BigEndian.{wordAt, byteAt, written}
+use borrow.Author.Tests.{ltb-false, ne-eqb, not-false}
+use Rattle.words.proofs.Tests.{neither}
+use Rattle.words.specs.BigEndian.{wordAt, byteAt}
 use Rattle.words.proofs.Laws.{with-room}
 use Rattle.wire.specs.declared.judging.Told.{Told}
 use Rattle.wire.proofs.Order.{Order, order, due-none}
 use Rattle.walk.specs.Walk.{rests}
-use Rattle.walk.specs.Shown.{tooLong, listOf, shownOf}
+use Rattle.walk.specs.Shown.{listOf, shownOf}
 use Rattle.walk.proofs.Rests.{records-fit}
 use Rattle.walk.proofs.Shows as shows
 use Rattle.report.specs.Record.{recordBytes}
 use Rattle.bench.specs.declared.Bench.{Bench}
 use Rattle.bench.specs.Status.{freshBench, benchSound}
 use Rattle.bench.specs.Carry.{Outcome, taken, carryOutBytes}
-use Rattle.bench.specs.Events.{Event, bytes, afterOne, after, Reached}
-use Rattle.bench.specs.Run.{runRests, runList, kitPart, pupilPart, runChecks, runCode, RunTold, runFor, runOf, reportOf, roomAfter}
+use Rattle.bench.specs.Events.{Event, bytes, after, Reached}
+use Rattle.bench.specs.Run.{runRests, runList, kitPart, pupilPart, runChecks, runCode, runOf, reportOf, roomAfter}
 use Rattle.bench.proofs.Outcomes.{sound-bytes}
 use Rattle.bench.proofs.Listing.{records-long, eight-within}
+use Rattle.bench.proofs.MacroRun.{after-append}
 use Rattle.bench.proofs.Own.{taken-own}
 
 -- The bench that some commands leave, each taken on the bench that the one before it left.
@@ -117,11 +119,6 @@ pub record Passed (b : Bench) (kit pupil room : List ℕ) : Type 0 where
   pub enough : 8192 ≤ length room
   pub sound : benchSound b ≡ true
 
-neither : (p q : Bool) → (p || q) ≡ false → (p ≡ false) × (q ≡ false)
-neither false false e = (refl, refl)
-neither false true e = absurd (let z : _≡_ {A = ℕ} 0 1 = cc in omega arith)
-neither true q e = absurd (let z : _≡_ {A = ℕ} 0 1 = cc in omega arith)
-
 pub passed : (b : Bench) (kit pupil room : List ℕ) → runOf b kit pupil room .code ≡ 0 → Passed b kit pupil room
 unfolding runOf runCode
 passed b kit pupil room accepted =
@@ -194,68 +191,80 @@ module _ (b : Bench) (kit pupil room : List ℕ) (accepted : runOf b kit pupil r
       ∙ drop-at (reportOf b kit pupil) stays end (report-long b kit pupil)
       ∙ ap (λ n. drop n room) (report-long b kit pupil)
 
--- A run is its commands carried out one after another. `Good` is soundness in any form that carrying out keeps.
+-- For the theorems below: commands one after another, in two goes.
+left-append : (b : Bench) (xs ys : List (List ℕ)) → leftBy (leftBy b xs) ys ≡ leftBy b (xs ++ ys)
+left-append b [] ys = refl
+left-append b (x ∷ xs) ys = left-append (taken b x .bench) xs ys
+
+-- Behind the kit's list.
+kit-then : (b : Bench) (kit : List ℕ) (rs : List (List ℕ)) → leftBy (kitPart b kit .bench) rs ≡ leftBy b (rests kit ++ rs)
+kit-then b kit rs = ap (λ c. leftBy c rs) (list-leaves b 1 1 (rests kit)) ∙ left-append b (rests kit) rs
+
+-- What happens to a bench in a run: the kit's commands and then the pupil's, each from its bytes; nothing where the run is refused.
+abbrev pub commandsOf : List ℕ → List ℕ → List Event
+commandsOf kit pupil = map bytes (rests kit ++ rests pupil)
+
+abbrev pub eventsOf : Bench → List ℕ → List ℕ → List ℕ → List Event
+eventsOf b kit pupil room = cond (eqb (runOf b kit pupil room .code) 0) (commandsOf kit pupil) []
+
+-- `Good` is soundness, in any form that carrying out keeps.
 module _ (Good : Bench → Type 0) (sound : (b : Bench) → Good b → benchSound b ≡ true)
     (keeps : (b : Bench) (s : List ℕ) → Good b → Good (carryOutBytes b s .bench)) where
   left-after : (b : Bench) → Good b → (rs : List (List ℕ)) → (leftBy b rs ≡ after b (map bytes rs)) × Good (leftBy b rs)
   left-after b good [] = (refl, good)
-  left-after b good (r ∷ rs) =
-      rw (sound-bytes b r (sound b good)) (left-after (carryOutBytes b r .bench) (keeps b r good) rs)
-
-  left-append : (b : Bench) (xs ys : List (List ℕ)) → leftBy (leftBy b xs) ys ≡ leftBy b (xs ++ ys)
-  left-append b [] ys = refl
-  left-append b (x ∷ xs) ys = left-append (taken b x .bench) xs ys
-
-  after-append : (b : Bench) (xs ys : List Event) → after (after b xs) ys ≡ after b (xs ++ ys)
-  after-append b [] ys = refl
-  after-append b (x ∷ xs) ys = after-append (afterOne b x) xs ys
+  left-after b good (r ∷ rs) = rw (sound-bytes b r (sound b good)) (left-after (carryOutBytes b r .bench) (keeps b r good) rs)
 
   module _ (b : Bench) (good : Good b) (kit pupil : List ℕ) where
+    told-after : (rs : List (List ℕ)) (r : List ℕ) → taken (leftBy b rs) r .told ≡ carryOutBytes (after b (map bytes rs)) r .told
+    told-after rs r =
+        let before = left-after b good rs in
+        ap (λ (o : Outcome). o .told) (sound-bytes (leftBy b rs) r (sound (leftBy b rs) (before .1))) ∙ ap (λ c. carryOutBytes c r .told) (before .0)
+
     both-left : pupilPart b kit pupil .bench ≡ leftBy b (rests kit ++ rests pupil)
-    both-left =
-        list-leaves (kitPart b kit .bench) 2 1 (rests pupil)
-        ∙ ap (λ c. leftBy c (rests pupil)) (list-leaves b 1 1 (rests kit))
-        ∙ left-append b (rests kit) (rests pupil)
+    both-left = list-leaves (kitPart b kit .bench) 2 1 (rests pupil) ∙ kit-then b kit (rests pupil)
 
-    -- A run leaves exactly the state of carrying out its commands one after another, and a good one.
-    pub run-leaves : pupilPart b kit pupil .bench ≡ after b (map bytes (rests kit ++ rests pupil))
-    run-leaves = both-left ∙ left-after b good (rests kit ++ rests pupil) .0
+    -- Two lists leave exactly the state of carrying out their commands one after another.
+    pub lists-leave : pupilPart b kit pupil .bench ≡ after b (commandsOf kit pupil)
+    lists-leave = both-left ∙ left-after b good (rests kit ++ rests pupil) .0
 
-    pub run-good : Good (pupilPart b kit pupil .bench)
-    run-good = rw both-left (left-after b good (rests kit ++ rests pupil) .1)
-
-    -- Each command's verdict is that of carrying it out in the state that the commands before it leave.
+    -- Each command's verdict is that of carrying it out in the state that the commands before it left.
     pub kit-verdict : (k : ℕ) → verdictAt b kit k ≡ carryOutBytes (after b (map bytes (take k (rests kit)))) (restAt kit k) .told
-    kit-verdict k =
-        let before = left-after b good (take k (rests kit)) in
-        ap (λ (o : Outcome). o .told) (sound-bytes (benchAt b kit k) (restAt kit k) (sound (benchAt b kit k) (before .1)))
-        ∙ ap (λ c. carryOutBytes c (restAt kit k) .told) (before .0)
+    kit-verdict k = told-after (take k (rests kit)) (restAt kit k)
 
     pub pupil-verdict : (k : ℕ)
         → verdictAt (kitPart b kit .bench) pupil k ≡ carryOutBytes (after b (map bytes (rests kit ++ take k (rests pupil)))) (restAt pupil k) .told
     pupil-verdict k =
-        let before = left-after b good (rests kit ++ take k (rests pupil)) in
-        let bench : benchAt (kitPart b kit .bench) pupil k ≡ leftBy b (rests kit ++ take k (rests pupil)) =
-        ap (λ c. leftBy c (take k (rests pupil))) (list-leaves b 1 1 (rests kit)) ∙ left-append b (rests kit) (take k (rests pupil)) in
-        ap (λ c. taken c (restAt pupil k) .told) bench
-        ∙ ap (λ (o : Outcome). o .told) (sound-bytes _ (restAt pupil k) (sound _ (before .1)))
-        ∙ ap (λ c. carryOutBytes c (restAt pupil k) .told) (before .0)
+        ap (λ c. taken c (restAt pupil k) .told) (kit-then b kit (take k (rests pupil))) ∙ told-after (rests kit ++ take k (rests pupil)) (restAt pupil k)
 
-    -- So a state that a run leaves, refused or not, is one that can be reached if the state before was.
-    pub run-reaches : (room : List ℕ) → Reached b → Reached (runOf b kit pupil room .bench)
-    unfolding runOf
-    run-reaches room r = go (eqb (runCode b kit pupil room) 0)
-      where
-        go : (carried : Bool) → Reached (cond carried (pupilPart b kit pupil .bench) b)
-        go true =
-            record {
-              events = r .events ++ map bytes (rests kit ++ rests pupil);
-              reached =
-                  sym (after-append freshBench (r .events) (map bytes (rests kit ++ rests pupil)))
-                  ∙ ap (λ c. after c (map bytes (rests kit ++ rests pupil))) (r .reached)
-                  ∙ sym run-leaves;
-            }
-        go false = r
+    module _ (room : List ℕ) where
+      -- So a run leaves exactly what its events leave one after another, refused or not.
+      pub run-leaves : runOf b kit pupil room .bench ≡ after b (eventsOf b kit pupil room)
+      unfolding runOf
+      run-leaves = go (eqb (runCode b kit pupil room) 0)
+        where
+          go : (carried : Bool) → cond carried (pupilPart b kit pupil .bench) b ≡ after b (cond carried (commandsOf kit pupil) [])
+          go true = lists-leave
+          go false = refl
+
+      -- It keeps the state good,
+      pub run-good : Good (runOf b kit pupil room .bench)
+      unfolding runOf
+      run-good = go (eqb (runCode b kit pupil room) 0)
+        where
+          go : (carried : Bool) → Good (cond carried (pupilPart b kit pupil .bench) b)
+          go true = rw both-left (left-after b good (rests kit ++ rests pupil) .1)
+          go false = good
+
+      -- and from a state that can be reached it leads to one that can be reached.
+      pub run-reaches : Reached b → Reached (runOf b kit pupil room .bench)
+      run-reaches r =
+          record {
+            events = r .events ++ eventsOf b kit pupil room;
+            reached =
+                after-append freshBench (r .events) (eventsOf b kit pupil room)
+                ∙ ap (λ c. after c (eventsOf b kit pupil room)) (r .reached)
+                ∙ sym run-leaves;
+          }
 
 -- The code of a run is the first of 20, 21 and 27 that is due, and 0 exactly when none is.
 pub run-order : (b : Bench) (kit pupil room : List ℕ) → Order (runChecks b kit pupil room) (runOf b kit pupil room .code)

@@ -6,6 +6,7 @@ use mathlib.Core.Bool.{Bool, true, false, cond, _&&_}
 use native.Mathlib.Omega.{arith}
 use lib.Dec.{leb}
 use borrow.Author.Tests.{leb-true}
+use Rattle.words.proofs.Tests.{both}
 use Rattle.words.specs.BigEndian.{wordAt}
 use Rattle.wire.specs.declared.table.Found.{Found}
 use Rattle.wire.specs.declared.kinds.Command.{Command}
@@ -13,7 +14,6 @@ use Rattle.wire.specs.Codes.{Check, firstOf}
 use Rattle.wire.specs.Table.{ruleOf}
 use Rattle.wire.specs.Read.{decodeChecks, opcodeOf, flagOf, lengthOf, thirdWord}
 use Rattle.wire.proofs.Order.{Order, order, rising}
-use Rattle.frame.proofs.Laws.{both}
 use Rattle.store.specs.Checks.{storeChecks}
 use Rattle.bench.specs.declared.Bench.{Bench}
 use Rattle.bench.specs.Status.{benchSound}

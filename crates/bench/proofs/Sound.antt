@@ -8,6 +8,7 @@ use native.Mathlib.Omega.{arith}
 use lib.ListN.{length, drop}
 use lib.Dec.{eqb}
 use borrow.Author.Tests.{eqb-true, eqb-false, le-leb, eq-eqb}
+use Rattle.words.proofs.Tests.{both}
 use Rattle.wire.specs.declared.kinds.Command.{Command}
 use Rattle.wire.specs.Judge.{judgeCode}
 use Rattle.wire.specs.Read.{readCode}
@@ -15,7 +16,7 @@ use Rattle.wire.proofs.RoundTrip.{read-allowed}
 use Rattle.frame.specs.Rules.{frameRule}
 use Rattle.frame.specs.Bytes.{frameBytes}
 use Rattle.frame.specs.Answers.{writeCode, roomAfter}
-use Rattle.frame.proofs.Laws.{both, Ruled, ruled, obeyed}
+use Rattle.frame.proofs.Laws.{Ruled, ruled, obeyed}
 use Rattle.camera.specs.Series.{nextHolds}
 use Rattle.camera.specs.Camera.{cameraSecond}
 use Rattle.store.specs.declared.roles.Role.{Role}

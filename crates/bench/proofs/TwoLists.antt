@@ -57,9 +57,12 @@ module _ (b : Bench) (kit pupil room : List ℕ) where
       abbrev second : List ℕ
       second = pupilPart b kit pupil .records
 
+      pupil-put : part ≡ written second (take (length room₁ - m * 8) (drop (m * 8) room₁))
+      pupil-put = part-is ∙ ap (λ (b : Bench). written (runList b 2 pupil .records) (take (length room₁ - m * 8) (drop (m * 8) room₁))) b₁-is
+
       both-put : putMid (m * 8) (length room₁ - m * 8) room₁ part ≡ written (first ++ second) room
       both-put =
-          part-written (m * 8) second room₁ part (omega (arith, rest-fits)) (part-is ∙ ap (λ (b : Bench). written (runList b 2 pupil .records) (take (length room₁ - m * 8) (drop (m * 8) room₁))) b₁-is)
+          part-written (m * 8) second room₁ part (omega (arith, rest-fits)) pupil-put
           ∙ rw (first-put, take-at first (drop (length first) room) (m * 8) first-long, drop-at first (drop (length first) room) (m * 8) first-long)
           (sym (written-both first second room (omega (arith, first-long, records-long (kitPart b kit .bench) 2 1 (rests pupil)))))
 

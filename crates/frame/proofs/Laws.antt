@@ -6,6 +6,7 @@ use mathlib.Core.Bool.{Bool, true, false, cond, not, Bool·beq, _&&_, _||_, fals
 use native.Mathlib.Omega.{arith}
 use lib.Dec.{leb, ltb, eqb}
 use borrow.Author.Tests.{lt-ltb, le-leb, eq-eqb, ne-eqb, ltb-true, leb-true, eqb-true, eqb-false, not-true}
+use Rattle.words.proofs.Tests.{both}
 use Rattle.wire.specs.declared.table.Form.{Form}
 use Rattle.wire.specs.Judge.{badOf}
 use Rattle.frame.specs.declared.Frame.{Frame}
@@ -48,11 +49,7 @@ pub record Ruled (f : Frame) : Type 0 where
   pub running-marked : f .running < 8 → marked (f .closed) (f .running) ≡ true
   pub opened-unmarked : marked (f .closed) (f .opened) ≡ false
 
--- The parts of a test that holds.
-pub both : (a b : Bool) → (a && b) ≡ true → (a ≡ true) × (b ≡ true)
-both true b e = (refl, e)
-both false b e = absurd (false≢true e)
-
+-- One of two tests holds.
 either : (a b : Bool) → (a || b) ≡ true → (a ≡ true) ⊎ (b ≡ true)
 either true b e = inl refl
 either false b e = inr e

@@ -9,6 +9,7 @@ use lib.Seq.{take-all}
 use lib.Count.{ones, ones-le}
 use lib.Dec.{eqb}
 use borrow.Author.Tests.{eq-eqb, eqb-true, eqb-false, not-false}
+use Rattle.words.proofs.Tests.{both}
 use Rattle.words.specs.BigEndian.{byteAt, halfAt, wordAt, bytesOf}
 use Rattle.wire.proofs.Order.{due-none}
 use Rattle.wire.proofs.Front.{Bytes, frontWords, front-made}
@@ -16,7 +17,7 @@ use Rattle.frame.specs.declared.Frame.{Frame}
 use Rattle.frame.specs.Rules.{frameRule}
 use Rattle.frame.specs.Bytes.{bit, modesOf, modesWord, macrosWord, frameBytes, frameAt, spareBitsZero, countHolds}
 use Rattle.frame.specs.Answers.{readChecks, readCode, readOf}
-use Rattle.frame.proofs.Laws.{Held, ruled, both}
+use Rattle.frame.proofs.Laws.{Held, ruled}
 use Rattle.frame.proofs.Modes.{bit-le, modes-le}
 use Rattle.frame.proofs.Bytes.{frameWords, frame-words, words-bytes}
 use Rattle.frame.proofs.Answers.{takenAs, taken}

@@ -8,6 +8,7 @@ use lib.ListN.{length, getD}
 use lib.Seq.{take-all}
 use lib.Dec.{eqb}
 use borrow.Author.Tests.{not-true, not-false, eq-eqb, ne-eqb}
+use Rattle.words.proofs.Tests.{both}
 use Rattle.wire.specs.declared.kinds.Kind.{Kind}
 use Rattle.wire.specs.declared.kinds.Command.{Command}
 use Rattle.wire.specs.Judge.{judgeCode}
@@ -19,7 +20,7 @@ use Rattle.store.specs.WrittenOut.{writtenOut, cappedLength, entryAt}
 use Rattle.store.specs.Checks.{permitCode}
 use Rattle.store.specs.Effects.{startedOf, executedAs, appliedOf, nextEntry, afterSecond, countedDown}
 use Rattle.store.proofs.Frame.{writtenAs, partOf, written-last, as-frame, written-is}
-use Rattle.store.proofs.Sound.{both, Good, Extends, extends-self, Passed, none-runs, closed-small, lists-stay, runs-extends}
+use Rattle.store.proofs.Sound.{Good, Extends, extends-self, Passed, none-runs, closed-small, lists-stay, runs-extends}
 use Rattle.store.proofs.Sound.{opened-extends, closed-extends, kept-extends, kept-own, appends, applied-executed, executed-passed}
 
 -- A closed macro of a sound store lasts 1 to 600 seconds, so the cap of 601 does not touch it.

@@ -2,13 +2,14 @@
 use Prim.Native.Nat.{ℕ, zero, suc, _+_, _*_, _-_, _≤_, _<_, min}
 use mathlib.Core.Path.{_≡_, refl, sym, ap, _∙_, subst}
 use mathlib.Core.List.{List, [], _∷_, _++_}
-use mathlib.Core.Bool.{Bool, true, false, cond, not, _&&_, _||_, true≢false, false≢true}
+use mathlib.Core.Bool.{Bool, true, false, cond, not, _&&_, _||_, true≢false}
 use native.Mathlib.Omega.{arith}
 use lib.ListN.{length, getD, take, drop, set, replicate, length-append}
 use lib.ListN.{length-take, length-drop, length-set, length-replicate, List·getD-eq-default, getD-replicate}
 use lib.Seq.{getD-set-same, getD-set-other, drop-set-lt, drop-set-add, take-set-le, take-suc-set}
 use lib.Dec.{T, leb, ltb, eqb}
 use borrow.Author.Tests.{ltb-true, ltb-false, leb-true, leb-false, eqb-true, eqb-false, not-false, lt-ltb, le-leb, lt-leb, eq-eqb, ne-eqb}
+use Rattle.words.proofs.Tests.{both}
 use Rattle.wire.specs.declared.kinds.Kind.{Kind}
 use Rattle.wire.specs.declared.kinds.Command.{Command}
 use Rattle.wire.specs.Codes.{Check, firstOf}
@@ -69,10 +70,6 @@ pub record Sound (s : Store) : Type 0 where
 -- Two tests, both of which hold or do not.
 and-true : (a b : Bool) → a ≡ true → b ≡ true → (a && b) ≡ true
 and-true a b p q = rw (p, q)
-
-pub both : (a b : Bool) → (a && b) ≡ true → (a ≡ true) × (b ≡ true)
-both true b h = (refl, h)
-both false b h = absurd (false≢true h)
 
 -- A test of each entry and a fact of each entry.
 each-of : (test : Command → Bool) (P : Command → Type 0) → ((e : Command) → test e ≡ true → P e)

@@ -7,6 +7,7 @@ use native.Mathlib.Omega.{arith}
 use lib.ListN.{length}
 use lib.Dec.{eqb, leb, ltb}
 use borrow.Author.Tests.{eq-eqb, ne-eqb, ltb-false}
+use Rattle.words.proofs.Tests.{neither}
 use Rattle.words.specs.BigEndian.{halfAt, wordAt}
 use Rattle.wire.specs.declared.table.Form.{Form}
 use Rattle.wire.specs.declared.table.Row.{Row}
@@ -126,10 +127,6 @@ pub record Reaches (s : List ℕ) : Type 0 where
   pub least : 2 ≤ lengthOf s
   pub most : lengthOf s ≤ 32
   pub whole : lengthOf s * 4 ≤ length s
-
-neither : (a b : Bool) → (a || b) ≡ false → (a ≡ false) × (b ≡ false)
-neither false b e = (refl, e)
-neither true b e = absurd (let z : _≡_ {A = ℕ} 0 1 = cc in omega arith)
 
 pub reaches : (s : List ℕ) → reachCode s ≡ 0 → Reaches s
 reaches s e =

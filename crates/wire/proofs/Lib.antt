@@ -1,6 +1,5 @@
--- Laws of one command on the wire, in three groups: what a reader of this crate wants to know (01's examples, the order of the codes, that
+-- Laws of one command on the wire, in three groups: what a reader of this crate wants to know (the order of the codes, that
 -- results are unique, what a read looks at, round trips), the laws behind those, and the laws behind single functions.
-pub mod Examples
 pub mod Order
 pub mod Unique
 pub mod Local

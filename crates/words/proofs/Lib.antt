@@ -1,2 +1,3 @@
--- Laws of big-endian numbers that the crates above cite too.
+-- Laws of big-endian numbers and of tests that the crates above cite too.
 pub mod Laws
+pub mod Tests

@@ -1,9 +1,9 @@
 -- `Bench::run` meets its contract: at each refusal the tests passed on the way say which code is due, and a run that is carried out is the kit's list
 -- and then the pupil's (`TwoLists`).
 use Prim.Native.Nat.{_+_, _*_, _≤_}
-use mathlib.Core.Path.{_≡_, refl, sym, _∙_}
+use mathlib.Core.Path.{_≡_, refl}
 use native.Mathlib.Omega.{arith}
-use lib.ListN.{length, length-drop}
+use lib.ListN.{length}
 use borrow.Author.Needs.{needs}
 use borrow.Author.Tests.{lt-ltb, le-ltb}
 use Rattle.walk.specs.Walk.{rests}
