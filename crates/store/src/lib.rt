@@ -5,7 +5,8 @@ ghost use lib.ListN.{length};
 ghost use Rattle.store.specs.Slots.{marksOf};
 ghost use Rattle.store.specs.WrittenOut.{writtenOut, cappedLength};
 ghost use Rattle.store.specs.Checks.{toldPermit, permitCode, row15};
-ghost use Rattle.store.specs.Effects.{freshSlots, freshStore, countedDown, appendedOf, openedOf, closedOf, startedOf, stoppedOf, clearedOf, executedAs, appliedOf, stepOf, steppedOf};
+ghost use Rattle.store.specs.Effects.{freshSlots, freshStore, countedDown, appendedOf, openedOf, closedOf, startedOf};
+ghost use Rattle.store.specs.Effects.{stoppedOf, clearedOf, executedAs, appliedOf, stepOf, steppedOf};
 ghost use Rattle.store.specs.Sound.{storeSound};
 
 mod checks;

@@ -1,6 +1,6 @@
 // The table of commands: a row for each of the fifteen forms, and the way from an opcode to its form and length.
 ghost use mathlib.Core.Path.{_≡_};
-ghost use Rattle.wire.specs.Table.{rowOf, ruleOf};
+ghost use Rattle.wire.specs.Table.{rowWith, rowOf, macroRuleOf, ruleOf};
 
 // The fifteen commands without their arguments, in the order of the table.
 pub enum Form {
@@ -75,7 +75,7 @@ fn row_with(
     low2: u32,
     high2: u32,
 ) -> Row
-    ensures { λ r. ⌜ r ≡ Rattle.wire.specs.Table.rowWith opcode words layout flags low1 high1 low2 high2 ⌝ }
+    ensures { λ r. ⌜ r ≡ rowWith opcode words layout flags low1 high1 low2 high2 ⌝ }
 {
     Row {
         opcode,
@@ -89,91 +89,92 @@ fn row_with(
     }
 }
 
+// A row of one argument of 8 bits, from 0 up.
+fn byte_row(opcode: u16, flags: FlagRule, high: u32) -> Row
+    ensures { λ r. ⌜ r ≡ rowWith opcode 3 Layout.Byte flags 0 high 0 0 ⌝ }
+{
+    row_with(opcode, 3, Layout::Byte, flags, 0, high, 0, 0)
+}
+
+// A row of two arguments of 16 bits, the first from 0 up; the flag may be either.
+fn halves_row(opcode: u16, high1: u32, low2: u32, high2: u32) -> Row
+    ensures { λ r. ⌜ r ≡ rowWith opcode 3 Layout.Halves FlagRule.Either 0 high1 low2 high2 ⌝ }
+{
+    row_with(
+        opcode,
+        3,
+        Layout::Halves,
+        FlagRule::Either,
+        0,
+        high1,
+        low2,
+        high2,
+    )
+}
+
+// A row of no arguments.
+fn bare_row(opcode: u16, flags: FlagRule) -> Row
+    ensures { λ r. ⌜ r ≡ rowWith opcode 2 Layout.Bare flags 0 0 0 0 ⌝ }
+{
+    row_with(opcode, 2, Layout::Bare, flags, 0, 0, 0, 0)
+}
+
+// The goal's row: two singles, by their bits.
+fn goal_row() -> Row
+    ensures { λ r. ⌜ r ≡ rowOf Form.TrkGoal ⌝ }
+{
+    row_with(
+        0x0153,
+        4,
+        Layout::Singles,
+        FlagRule::Either,
+        0,
+        LAST_GOAL,
+        0,
+        LAST_GOAL,
+    )
+}
+
+// WAIT's row: 16 bits and a pad.
+fn wait_row() -> Row
+    ensures { λ r. ⌜ r ≡ rowOf Form.Wait ⌝ }
+{
+    row_with(
+        0x7f04,
+        3,
+        Layout::Half,
+        FlagRule::Always,
+        1,
+        LONGEST_WAIT,
+        0,
+        0,
+    )
+}
+
+// The table's row of a form.
 pub fn row_of(form: Form) -> Row
     ensures { λ r. ⌜ r ≡ rowOf form ⌝ }
 {
     match form {
-        Form::ImgPwr => row_with(0x0114, 3, Layout::Byte, FlagRule::Either, 0, 1, 0, 0),
-        Form::ImgRegion => row_with(
-            0x0117,
-            3,
-            Layout::Halves,
-            FlagRule::Either,
-            0,
-            LAST_PIXEL,
-            0,
-            LAST_PIXEL,
-        ),
-        Form::ImgTrack => row_with(
-            0x0118,
-            3,
-            Layout::Halves,
-            FlagRule::Either,
-            0,
-            ANY_HALF,
-            1,
-            ANY_HALF,
-        ),
-        Form::TrkAlg => row_with(0x0148, 3, Layout::Byte, FlagRule::Either, 0, 2, 0, 0),
-        Form::TrkLoop => row_with(0x014b, 3, Layout::Byte, FlagRule::Either, 0, 1, 0, 0),
-        Form::ImgImage => row_with(
-            0x0150,
-            3,
-            Layout::Halves,
-            FlagRule::Either,
-            0,
-            ANY_HALF,
-            1,
-            ANY_HALF,
-        ),
-        Form::TrkGoal => row_with(
-            0x0153,
-            4,
-            Layout::Singles,
-            FlagRule::Either,
-            0,
-            LAST_GOAL,
-            0,
-            LAST_GOAL,
-        ),
-        Form::TlmFlush => row_with(0x015a, 2, Layout::Bare, FlagRule::Either, 0, 0, 0, 0),
-        Form::FlushAuto => row_with(0x015c, 3, Layout::Byte, FlagRule::Either, 0, 1, 0, 0),
-        Form::Open => row_with(
-            0x7f01,
-            3,
-            Layout::Byte,
-            FlagRule::Never,
-            0,
-            LAST_MACRO,
-            0,
-            0,
-        ),
-        Form::Close => row_with(0x7f02, 2, Layout::Bare, FlagRule::Never, 0, 0, 0, 0),
-        Form::Run => row_with(
-            0x7f03,
-            3,
-            Layout::Byte,
-            FlagRule::Either,
-            0,
-            LAST_MACRO,
-            0,
-            0,
-        ),
-        Form::Wait => row_with(
-            0x7f04,
-            3,
-            Layout::Half,
-            FlagRule::Always,
-            1,
-            LONGEST_WAIT,
-            0,
-            0,
-        ),
-        Form::Stop => row_with(0x7f05, 2, Layout::Bare, FlagRule::Never, 0, 0, 0, 0),
-        Form::Clear => row_with(0x7f06, 2, Layout::Bare, FlagRule::Never, 0, 0, 0, 0),
+        Form::ImgPwr => byte_row(0x0114, FlagRule::Either, 1),
+        Form::ImgRegion => halves_row(0x0117, LAST_PIXEL, 0, LAST_PIXEL),
+        Form::ImgTrack => halves_row(0x0118, ANY_HALF, 1, ANY_HALF),
+        Form::TrkAlg => byte_row(0x0148, FlagRule::Either, 2),
+        Form::TrkLoop => byte_row(0x014b, FlagRule::Either, 1),
+        Form::ImgImage => halves_row(0x0150, ANY_HALF, 1, ANY_HALF),
+        Form::TrkGoal => goal_row(),
+        Form::TlmFlush => bare_row(0x015a, FlagRule::Either),
+        Form::FlushAuto => byte_row(0x015c, FlagRule::Either, 1),
+        Form::Open => byte_row(0x7f01, FlagRule::Never, LAST_MACRO),
+        Form::Close => bare_row(0x7f02, FlagRule::Never),
+        Form::Run => byte_row(0x7f03, FlagRule::Either, LAST_MACRO),
+        Form::Wait => wait_row(),
+        Form::Stop => bare_row(0x7f05, FlagRule::Never),
+        Form::Clear => bare_row(0x7f06, FlagRule::Never),
     }
 }
 
+// What an opcode stands for.
 pub fn rule_of(opcode: u16) -> Found
     ensures { λ r. ⌜ r ≡ ruleOf opcode ⌝ }
 {
@@ -209,7 +210,7 @@ pub fn rule_of(opcode: u16) -> Found
 
 // The opcodes 0x7fxx.
 fn macro_rule_of(opcode: u16) -> Found
-    ensures { λ r. ⌜ r ≡ Rattle.wire.specs.Table.macroRuleOf opcode ⌝ }
+    ensures { λ r. ⌜ r ≡ macroRuleOf opcode ⌝ }
 {
     if opcode == 0x7f01 {
         return Found::Known(Form::Open, 3);

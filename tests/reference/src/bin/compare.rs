@@ -1,0 +1,189 @@
+//! The random comparison of a replay program and a list program with the
+//! reference. Exits with 0 when nothing differs and every code occurred, with
+//! 1 when not, and with 2 when it was not told what to compare.
+
+use std::process::ExitCode;
+use std::time::Instant;
+
+use reference::comparison::items::Item;
+use reference::comparison::options::{Options, USAGE};
+use reference::comparison::program::Program;
+use reference::comparison::rng::Rng;
+use reference::comparison::shrink::shrunk;
+use reference::comparison::tally::{first_difference, grouped, Tally};
+use reference::comparison::{fixed, random};
+use reference::list::listing;
+use reference::replay::{hex, transcript, Replay, Script};
+use reference::run::{commands_of, LONGEST_LIST};
+
+/// Says that a difference was found and printed.
+struct Differs;
+
+/// How much was sent to the replay program and compared.
+#[derive(Default)]
+struct Sent {
+    scripts: u64,
+    answers: u64,
+}
+
+/// Streams of random numbers for lists lie far from those for scripts.
+const LIST_STREAM: u64 = 1 << 32;
+
+fn main() -> ExitCode {
+    let Some(options) = Options::from(std::env::args().skip(1)) else {
+        eprintln!("{USAGE}");
+        return ExitCode::from(2);
+    };
+    if let Err(trouble) = options.replay.starts().and(options.list.starts()) {
+        eprintln!("{trouble}");
+        return ExitCode::from(2);
+    }
+    let started = Instant::now();
+    let mut tally = Tally::default();
+    let compared = compare_scripts(&options, &mut tally)
+        .and_then(|sent| compare_lists(&options).map(|lists| (sent, lists)));
+    let Ok((Sent { scripts, answers }, lists)) = compared else {
+        return ExitCode::FAILURE;
+    };
+    print!("{}", tally.table());
+    let seconds = started.elapsed().as_secs_f64();
+    println!("{scripts} scripts and {lists} lists took {seconds:.1} s");
+    let missing = tally.missing();
+    if !missing.is_empty() {
+        println!("codes that never occurred: {missing:?}");
+        return ExitCode::FAILURE;
+    }
+    let (answers, seed) = (grouped(answers), options.seed);
+    println!("compared {answers} answers, {lists} lists, seed {seed}: no difference");
+    ExitCode::SUCCESS
+}
+
+/// Compares the fixed scripts, then random ones until there are answers enough.
+fn compare_scripts(options: &Options, tally: &mut Tally) -> Result<Sent, Differs> {
+    let mut sent = Sent::default();
+    let endless = (0..).map(|index| random::script(Rng::stream(options.seed, index)));
+    let fixed = fixed::scripts();
+    let always = fixed.len() as u64;
+    for script in fixed.into_iter().chain(endless) {
+        if sent.scripts >= always && sent.answers >= options.answers {
+            break;
+        }
+        sent.answers += compare_script(&options.replay, &script, tally)?;
+        sent.scripts += 1;
+    }
+    Ok(sent)
+}
+
+fn compare_script(program: &Program, items: &[Item], tally: &mut Tally) -> Result<u64, Differs> {
+    let script = items.concat();
+    let expected = transcript(&script);
+    tally.add(&expected);
+    match difference(program, &script, &expected) {
+        None => Ok(expected.lines().count() as u64),
+        Some(found) => {
+            println!("a script differs:");
+            let last = item_of_line(items, found.line);
+            Err(report(program, transcript, items, last))
+        }
+    }
+}
+
+fn compare_lists(options: &Options) -> Result<usize, Differs> {
+    let mut rng = Rng::stream(options.seed, LIST_STREAM);
+    let mut lists = vec![
+        Vec::new(),
+        full_list(LONGEST_LIST),
+        full_list(LONGEST_LIST + 1),
+    ];
+    lists.extend((0..options.lists).map(|_| random::list(&mut rng)));
+    for list in &lists {
+        compare_list(&options.list, list)?;
+    }
+    Ok(lists.len())
+}
+
+/// As many whole flushes as fit, and zeros behind them.
+fn full_list(length: usize) -> Vec<u8> {
+    let mut list = [0x01, 0x5a, 0x00, 0x02].repeat(LONGEST_LIST / 4);
+    list.resize(length, 0);
+    list
+}
+
+fn compare_list(program: &Program, list: &[u8]) -> Result<(), Differs> {
+    if difference(program, list, &listing(list)).is_none() {
+        return Ok(());
+    }
+    println!("a list differs:");
+    let commands: Vec<Item> = commands_of(list).iter().map(|part| part.to_vec()).collect();
+    Err(report(program, listing, &commands, commands.len()))
+}
+
+/// The first line that is not as expected.
+struct Difference {
+    line: usize,
+    expected: String,
+    found: String,
+}
+
+fn difference(program: &Program, input: &[u8], expected: &str) -> Option<Difference> {
+    match program.answer(input) {
+        Ok(found) => {
+            let (line, expected, found) = first_difference(expected, &found)?;
+            Some(Difference {
+                line,
+                expected,
+                found,
+            })
+        }
+        // Nobody knows at which line it went wrong, so all items are kept.
+        Err(trouble) => Some(Difference {
+            line: usize::MAX,
+            expected: "an end".into(),
+            found: trouble,
+        }),
+    }
+}
+
+/// Which item answers with the line of this number, from 1.
+fn item_of_line(items: &[Item], line: usize) -> usize {
+    let mut replay = Replay::default();
+    let mut lines = 0;
+    for (index, item) in items.iter().enumerate() {
+        let answer = replay.item(&mut Script::new(item));
+        lines += answer.map_or(1, |text| text.lines().count());
+        if lines >= line {
+            return index;
+        }
+    }
+    items.len()
+}
+
+/// Shrinks the items, for which the reference expects what the function says,
+/// and prints what is left of them with the difference that they show.
+fn report(
+    program: &Program,
+    expected: fn(&[u8]) -> String,
+    items: &[Item],
+    last: usize,
+) -> Differs {
+    let show = |items: &[Item]| {
+        let input = items.concat();
+        difference(program, &input, &expected(&input))
+    };
+    let smallest = shrunk(items, last, &mut |fewer| show(fewer).is_some());
+    let bytes: usize = smallest.iter().map(Vec::len).sum();
+    println!("smallest found, {bytes} bytes, one item a line:");
+    for item in &smallest {
+        println!("  {}", hex(item));
+    }
+    match show(&smallest) {
+        None => println!("the program does not always answer the same"),
+        Some(found) => {
+            let known = (found.line != usize::MAX).then(|| format!(" {}", found.line));
+            println!("first differing line{}:", known.unwrap_or_default());
+            println!("  reference: {}", found.expected);
+            println!("  program:   {}", found.found);
+        }
+    }
+    Differs
+}

@@ -1,0 +1,76 @@
+//! The fixed scripts, for what chance misses: the list of all their episodes,
+//! how these are packed into scripts, and the scripts that end badly.
+
+use super::items::{fresh, read, status, Item};
+use super::{fixed_bench, fixed_wire};
+use crate::replay::LONGEST_SCRIPT;
+
+/// Scripts are filled up to here; the rest is slack for one more item.
+pub const SCRIPT_AIM: usize = 60_000;
+
+/// All fixed scripts, each a list of items.
+pub fn scripts() -> Vec<Vec<Item>> {
+    let mut episodes = fixed_bench::episodes();
+    episodes.extend(fixed_wire::episodes());
+    let mut scripts = packed(episodes);
+    scripts.push(Vec::new());
+    scripts.extend(bad_scripts());
+    scripts.push(just_long_enough());
+    scripts.push(too_long());
+    scripts
+}
+
+/// Starting a program is slow, so many episodes share a script, each on a
+/// fresh bench.
+fn packed(episodes: Vec<Vec<Item>>) -> Vec<Vec<Item>> {
+    let mut scripts = vec![Vec::new()];
+    let mut filled = 0;
+    for episode in episodes {
+        let bytes = 1 + episode.iter().map(Vec::len).sum::<usize>();
+        if filled + bytes > SCRIPT_AIM {
+            scripts.push(Vec::new());
+            filled = 0;
+        }
+        filled += bytes;
+        if let Some(script) = scripts.last_mut() {
+            script.push(fresh());
+            script.extend(episode);
+        }
+    }
+    scripts
+}
+
+/// Items cut off at every sort of place, and first bytes that start no item.
+fn bad_scripts() -> Vec<Vec<Item>> {
+    let ends: [&[u8]; 12] = [
+        &[0x01],
+        &[0x01, 5, 1, 0x5a, 0, 2],
+        &[0x03, 0x20, 0x00, 0, 0],
+        &[0x03, 0x20, 0x00, 0, 0, 0, 1],
+        &[0x05, 0, 0, 0, 0, 1, 0, 0, 0],
+        &[0x06, 32],
+        &[0x06, 32, 32, 0, 0],
+        &[0x07, 16, 8, 1, 0x5a, 0, 2, 1, 0x5a, 0],
+        &[0x08, 1],
+        &[0x09, 0, 7, 0, 0, 0, 0, 0, 0, 0],
+        &[0x0a],
+        &[0xff],
+    ];
+    ends.iter()
+        .map(|end| vec![status(), end.to_vec()])
+        .collect()
+}
+
+/// A script of exactly the longest length.
+fn just_long_enough() -> Vec<Item> {
+    let wide = read(0, &[0; 255]);
+    let mut items = vec![wide.clone(); LONGEST_SCRIPT / wide.len()];
+    items.resize(items.len() + LONGEST_SCRIPT % wide.len(), status());
+    items
+}
+
+fn too_long() -> Vec<Item> {
+    let mut items = just_long_enough();
+    items.push(status());
+    items
+}

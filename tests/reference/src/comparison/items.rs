@@ -1,0 +1,103 @@
+//! Builders for the items of a replay script, and for the commands they carry,
+//! allowed or not.
+
+use crate::command::{Command, Kind};
+use crate::replay::{COMMAND, DECODED, FRAME, FRESH, PASSED, READ, RUN, SECOND, SHOWN, STATUS};
+use crate::wire::{sealed, unsealed};
+
+/// One item of a script, as its bytes.
+pub type Item = Vec<u8>;
+
+/// Most bytes that items with a one-byte length can carry.
+pub const LONGEST_PART: usize = 255;
+
+pub fn second() -> Item {
+    vec![SECOND]
+}
+
+pub fn status() -> Item {
+    vec![STATUS]
+}
+
+pub fn fresh() -> Item {
+    vec![FRESH]
+}
+
+pub fn passed(seconds: u16) -> Item {
+    let [high, low] = seconds.to_be_bytes();
+    vec![PASSED, high, low]
+}
+
+/// A part behind its length in one byte; what does not fit is cut off.
+fn short_part(item: &mut Item, bytes: &[u8]) {
+    let part = &bytes[..bytes.len().min(LONGEST_PART)];
+    item.push(part.len() as u8);
+    item.extend(part);
+}
+
+fn long_part(item: &mut Item, bytes: &[u8]) {
+    item.extend((bytes.len() as u16).to_be_bytes());
+    item.extend(bytes);
+}
+
+pub fn command(bytes: &[u8]) -> Item {
+    let mut item = vec![COMMAND];
+    short_part(&mut item, bytes);
+    item
+}
+
+pub fn run(room: u16, kit: &[u8], pupil: &[u8]) -> Item {
+    let mut item = vec![RUN];
+    item.extend(room.to_be_bytes());
+    long_part(&mut item, kit);
+    long_part(&mut item, pupil);
+    item
+}
+
+pub fn shown(kit: &[u8], pupil: &[u8], sender: u8, number: u32) -> Item {
+    let mut item = vec![SHOWN];
+    long_part(&mut item, kit);
+    long_part(&mut item, pupil);
+    item.push(sender);
+    item.extend(number.to_be_bytes());
+    item
+}
+
+pub fn frame(room: u8, bytes: &[u8]) -> Item {
+    let mut item = vec![FRAME, room];
+    short_part(&mut item, bytes);
+    item
+}
+
+pub fn read(room: u8, bytes: &[u8]) -> Item {
+    let mut item = vec![READ, room];
+    short_part(&mut item, bytes);
+    item
+}
+
+pub fn decoded(flag: u8, row: u8, arguments: [u32; 2]) -> Item {
+    let mut item = vec![DECODED, flag, row];
+    item.extend(arguments[0].to_be_bytes());
+    item.extend(arguments[1].to_be_bytes());
+    item
+}
+
+/// A command's bytes with a right XOR, whether or not it would be taken.
+pub fn raw(appended: bool, kind: Kind, arguments: [u32; 2]) -> Vec<u8> {
+    sealed(&unsealed(&Command::new(appended, kind, arguments)))
+}
+
+/// A command to execute, by its first argument.
+pub fn now(kind: Kind, argument: u32) -> Item {
+    command(&raw(false, kind, [argument, 0]))
+}
+
+/// A command to append, by its first argument.
+pub fn append(kind: Kind, argument: u32) -> Item {
+    command(&raw(true, kind, [argument, 0]))
+}
+
+/// So many seconds, each with the status after it.
+pub fn watched(seconds: usize) -> Vec<Item> {
+    (0..seconds).flat_map(|_| [second(), status()]).collect()
+}

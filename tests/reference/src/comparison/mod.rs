@@ -1,0 +1,14 @@
+//! The random comparison: what it sends (fixed and random scripts), how it
+//! runs a program, and what it makes of the two transcripts.
+
+pub mod damage;
+pub mod fixed;
+pub mod fixed_bench;
+pub mod fixed_wire;
+pub mod items;
+pub mod options;
+pub mod program;
+pub mod random;
+pub mod rng;
+pub mod shrink;
+pub mod tally;

@@ -1,0 +1,362 @@
+//! Random scripts. A shadow bench follows what is sent, so that a command can
+//! be aimed: at a macro that is closed, at the 600 limit, at the 24th entry.
+
+use super::damage::{acting_kind, any_kind, arguments, damaged, random_list};
+use super::fixed::SCRIPT_AIM;
+use super::items::{
+    append, command, decoded, frame, fresh, now, passed, raw, read, run, second, shown, status,
+    watched, Item,
+};
+use super::rng::Rng;
+use crate::command::Kind;
+use crate::frame::{AT_CLOSED, AT_CLOSED_COUNT, AT_RUNNING, FRAME_BYTES, NO_MACRO};
+use crate::macros::{LONGEST_MACRO, MACROS, MOST_ENTRIES};
+use crate::replay::{Replay, Script, DECODED_ROOM, LONGEST_SCRIPT};
+use crate::run::{KIT, LONGEST_LIST, PUPIL, SMALLEST_REPORT_ROOM};
+use crate::wire::MOST_WORDS;
+
+struct Maker {
+    rng: Rng,
+    shadow: Replay,
+    items: Vec<Item>,
+    bytes: usize,
+}
+
+/// One random script of about 60 KB, always the same for the same generator.
+pub fn script(rng: Rng) -> Vec<Item> {
+    let mut maker = Maker {
+        rng,
+        shadow: Replay::default(),
+        items: Vec::new(),
+        bytes: 0,
+    };
+    while maker.bytes < SCRIPT_AIM {
+        maker.episode();
+        maker.push(fresh());
+    }
+    maker.items
+}
+
+/// A list for the list program, now and then as long as it may be.
+pub fn list(rng: &mut Rng) -> Vec<u8> {
+    let commands = if rng.percent(5) { 400 } else { rng.below(40) };
+    let damage = rng.pick(&[0, 2, 20]);
+    random_list(rng, commands, damage, LONGEST_LIST)
+}
+
+impl Maker {
+    fn push(&mut self, item: Item) {
+        if self.bytes + item.len() > LONGEST_SCRIPT {
+            return;
+        }
+        self.bytes += item.len();
+        self.shadow.item(&mut Script::new(&item));
+        self.items.push(item);
+    }
+
+    fn push_all(&mut self, items: impl IntoIterator<Item = Item>) {
+        items.into_iter().for_each(|item| self.push(item));
+    }
+
+    fn episode(&mut self) {
+        match self.rng.below(10) {
+            0..=2 => self.macros_episode(),
+            3 | 4 => self.chatter_episode(),
+            5 => self.decoded_episode(),
+            6 => self.lists_episode(),
+            7 => self.frames_episode(),
+            8 => self.reads_episode(),
+            _ => self.shown_episode(),
+        }
+    }
+
+    /// Macros in rising order, each closed where it can be, then run.
+    fn macros_episode(&mut self) {
+        let tight = self.rng.percent(40);
+        for number in 0..MACROS as u32 {
+            if self.rng.percent(20) {
+                continue;
+            }
+            self.push(now(Kind::Open, number));
+            self.fill_macro(tight);
+            self.push_all([now(Kind::Close, 0), status()]);
+            if self.shadow.bench.macros.open.is_some() && self.rng.percent(70) {
+                break;
+            }
+            if self.rng.percent(30) {
+                self.disturb();
+            }
+        }
+        for _ in 0..self.rng.within(1, 3) {
+            self.run_a_macro();
+        }
+    }
+
+    fn fill_macro(&mut self, tight: bool) {
+        let entries = match self.rng.below(10) {
+            0 => self.rng.below(2),
+            1 => MOST_ENTRIES + self.rng.below(3),
+            _ => self.rng.within(1, 6),
+        };
+        for _ in 0..entries {
+            let entry = self.entry(tight);
+            self.push(entry);
+            if self.rng.percent(8) {
+                self.disturb();
+            }
+        }
+        // Aimed at one below the limit, the limit, or one past it.
+        let aim = LONGEST_MACRO + self.rng.below(3) - 1;
+        let length = self.shadow.bench.macros.open_length();
+        if tight && self.rng.percent(60) && length < aim {
+            self.push(append(Kind::Wait, (aim - length) as u32));
+        }
+    }
+
+    fn entry(&mut self, tight: bool) -> Item {
+        match self.rng.below(10) {
+            0..=3 => append(Kind::Run, self.likely_number()),
+            4 if tight => append(Kind::Wait, self.rng.within(1, 300) as u32),
+            4 | 5 => append(Kind::Wait, self.rng.within(1, 4) as u32),
+            _ => {
+                let kind = acting_kind(&mut self.rng);
+                let values = arguments(&mut self.rng, kind, 2);
+                command(&raw(true, kind, values))
+            }
+        }
+    }
+
+    /// A macro's number, mostly that of a closed one if there is any.
+    fn likely_number(&mut self) -> u32 {
+        let closed = self.shadow.bench.macros.closed;
+        let known: Vec<usize> = (0..MACROS).filter(|number| closed[*number]).collect();
+        if known.is_empty() || self.rng.percent(15) {
+            return self.rng.below(MACROS + 1) as u32;
+        }
+        self.rng.pick(&known) as u32
+    }
+
+    /// Runs a macro, mostly to its end, with commands between the seconds.
+    fn run_a_macro(&mut self) {
+        let number = self.likely_number();
+        self.push_all([now(Kind::Run, number), status()]);
+        let left = self.shadow.bench.seconds_left();
+        let stepped = self.rng.below(left.min(60) + 4);
+        for _ in 0..stepped {
+            self.push(second());
+            if self.rng.percent(25) {
+                self.push(status());
+            }
+            if self.rng.percent(8) {
+                self.disturb();
+            }
+        }
+        if self.rng.percent(60) {
+            let left = self.shadow.bench.seconds_left();
+            let seconds = left.saturating_sub(2) + self.rng.below(4);
+            self.push_all([passed(seconds as u16), status(), second(), status()]);
+        }
+    }
+
+    /// One or two commands from outside, most of them whole.
+    fn disturb(&mut self) {
+        for _ in 0..self.rng.within(1, 2) {
+            let bytes = self.likely_command();
+            let damage = self.rng.percent(15);
+            let bytes = if damage {
+                damaged(&mut self.rng, &bytes)
+            } else {
+                bytes
+            };
+            self.push(command(&bytes));
+        }
+        if self.rng.percent(60) {
+            self.push(status());
+        }
+    }
+
+    /// A command that stands a fair chance in the bench's state.
+    fn likely_command(&mut self) -> Vec<u8> {
+        let kind = any_kind(&mut self.rng);
+        let mut values = arguments(&mut self.rng, kind, 10);
+        if kind == Kind::Run && self.rng.percent(80) {
+            values[0] = self.likely_number();
+        }
+        let open = self.shadow.bench.macros.open.is_some();
+        let chance = match kind {
+            Kind::Open | Kind::Close | Kind::Stop | Kind::Clear => 5,
+            Kind::Wait => 85,
+            _ if open => 60,
+            _ => 10,
+        };
+        raw(self.rng.percent(chance), kind, values)
+    }
+
+    fn chatter_episode(&mut self) {
+        for _ in 0..self.rng.within(20, 160) {
+            match self.rng.below(10) {
+                0 | 1 => self.push(second()),
+                2 => {
+                    let seconds = self.rng.below(12) as u16;
+                    self.push_all([passed(seconds), status()]);
+                }
+                _ => self.disturb(),
+            }
+        }
+    }
+
+    fn decoded_episode(&mut self) {
+        for _ in 0..self.rng.within(20, 120) {
+            let kind = any_kind(&mut self.rng);
+            let mut values = arguments(&mut self.rng, kind, 40);
+            if kind == Kind::Run && self.rng.percent(50) {
+                values[0] = self.likely_number();
+            }
+            for value in &mut values {
+                // Bits above the field's width, which the remainder takes off.
+                if kind != Kind::TrkGoal && self.rng.percent(20) {
+                    *value |= self.rng.word() << 16;
+                }
+            }
+            let turns = 15 * self.rng.below(16) as u8;
+            let flag = self.rng.byte();
+            self.push(decoded(flag, kind as u8 + turns, values));
+            if self.rng.percent(70) {
+                self.push(status());
+            }
+            if self.rng.percent(25) {
+                self.push(second());
+            }
+        }
+    }
+
+    fn lists_episode(&mut self) {
+        for _ in 0..self.rng.within(1, 4) {
+            let (kit, pupil) = self.aimed_lists();
+            let room = self.report_room();
+            self.push_all([run(room, &kit, &pupil), status()]);
+            let seconds = self.rng.below(6);
+            self.push_all(watched(seconds));
+        }
+    }
+
+    /// Two lists whose commands are aimed at the state that those before them
+    /// leave; the shadow only tries them out, for the run may yet be refused.
+    fn aimed_lists(&mut self) -> (Vec<u8>, Vec<u8>) {
+        let before = self.shadow.clone();
+        let damage = self.rng.pick(&[0, 1, 10]);
+        let lists = [(); 2].map(|_| self.aimed_list(damage));
+        self.shadow = before;
+        let [kit, pupil] = lists;
+        (kit, pupil)
+    }
+
+    fn aimed_list(&mut self, damage_percent: usize) -> Vec<u8> {
+        let mut list = Vec::new();
+        for _ in 0..self.rng.below(60) {
+            let mut bytes = self.likely_command();
+            if self.rng.percent(damage_percent) {
+                bytes = damaged(&mut self.rng, &bytes);
+            }
+            self.shadow.item(&mut Script::new(&command(&bytes)));
+            list.extend(bytes);
+        }
+        list.truncate(LONGEST_LIST);
+        list
+    }
+
+    fn report_room(&mut self) -> u16 {
+        let enough = SMALLEST_REPORT_ROOM;
+        let room = match self.rng.below(8) {
+            0 => self.rng.below(enough),
+            1 => self.rng.within(enough, u16::MAX.into()),
+            2 => enough - 1,
+            3 => enough,
+            _ => self.rng.within(enough, 9_100),
+        };
+        room as u16
+    }
+
+    /// The shadow's own frame or one of random fields, then rules broken.
+    fn frames_episode(&mut self) {
+        for _ in 0..self.rng.within(5, 60) {
+            self.disturb();
+            let mut bytes = vec![0; FRAME_BYTES];
+            // A shadow that a mistake has made unwritable still gives a frame: zeros.
+            let _ = self.shadow.bench.frame().write(&mut bytes);
+            for _ in 0..self.rng.below(4) {
+                self.change_frame(&mut bytes);
+            }
+            if self.rng.percent(60) {
+                bytes[AT_CLOSED_COUNT] = bytes[AT_CLOSED].count_ones() as u8;
+            }
+            if self.rng.percent(6) {
+                let length = self.rng.below(FRAME_BYTES + 20);
+                bytes.resize(length, 0);
+            }
+            let sizes = [FRAME_BYTES, FRAME_BYTES, FRAME_BYTES - 1, 40, 255];
+            let room = match self.rng.percent(10) {
+                true => self.rng.below(2 * FRAME_BYTES),
+                false => self.rng.pick(&sizes),
+            };
+            self.push(frame(room as u8, &bytes));
+        }
+    }
+
+    fn change_frame(&mut self, bytes: &mut [u8]) {
+        match self.rng.below(5) {
+            0 => {
+                let place = self.rng.below(FRAME_BYTES);
+                bytes[place] = self.rng.byte();
+            }
+            1 => {
+                let place = self.rng.below(FRAME_BYTES);
+                bytes[place] ^= 1 << self.rng.below(8);
+            }
+            2 => {
+                let macros = [0, 3, 7, 8, 254, NO_MACRO];
+                let seconds = self.rng.pick(&[0, 1, 600, 601, 255, 256]) as u16;
+                bytes[AT_RUNNING] = self.rng.pick(&macros);
+                bytes[AT_RUNNING + 1] = self.rng.pick(&macros);
+                bytes[AT_RUNNING + 2..AT_CLOSED].copy_from_slice(&seconds.to_be_bytes());
+            }
+            3 => bytes[AT_CLOSED] = self.rng.byte(),
+            _ => {
+                let half = 2 * self.rng.below(12);
+                let value = self
+                    .rng
+                    .pick(&[0u16, 1, 0x3ff, 0x400, 0x447f, 0x4480, 0x8000]);
+                bytes[half..half + 2].copy_from_slice(&value.to_be_bytes());
+            }
+        }
+    }
+
+    fn reads_episode(&mut self) {
+        for _ in 0..self.rng.within(20, 120) {
+            let mut bytes = self.likely_command();
+            if self.rng.percent(45) {
+                bytes = damaged(&mut self.rng, &bytes);
+            }
+            let room = match self.rng.percent(25) {
+                true => self.rng.below(2 * MOST_WORDS),
+                false => DECODED_ROOM,
+            };
+            self.push(read(room as u8, &bytes));
+        }
+    }
+
+    fn shown_episode(&mut self) {
+        for _ in 0..self.rng.within(3, 12) {
+            let commands = self.rng.below(8);
+            let kit = random_list(&mut self.rng, commands, 20, LONGEST_LIST);
+            let pupil = random_list(&mut self.rng, 8 - commands, 20, LONGEST_LIST);
+            for sender in [KIT, PUPIL, self.rng.byte()] {
+                let number = match self.rng.percent(10) {
+                    true => self.rng.word(),
+                    false => self.rng.below(10) as u32,
+                };
+                self.push(shown(&kit, &pupil, sender, number));
+            }
+        }
+    }
+}

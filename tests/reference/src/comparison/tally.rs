@@ -1,0 +1,92 @@
+//! Which codes a transcript holds, how often each occurred, and the first line
+//! in which two transcripts differ.
+
+use crate::codes::HIGHEST_CODE;
+
+const CODES: usize = HIGHEST_CODE as usize + 1;
+
+/// How often each code occurred.
+#[derive(Clone, Debug, Default)]
+pub struct Tally {
+    counts: [u64; CODES],
+}
+
+impl Tally {
+    pub fn add(&mut self, transcript: &str) {
+        for code in transcript.lines().flat_map(codes_in) {
+            if let Some(count) = self.counts.get_mut(code) {
+                *count += 1;
+            }
+        }
+    }
+
+    pub fn missing(&self) -> Vec<usize> {
+        (0..CODES).filter(|code| self.counts[*code] == 0).collect()
+    }
+
+    pub fn table(&self) -> String {
+        let mut table = String::from("code occurred\n");
+        for (code, count) in self.counts.iter().enumerate() {
+            table += &format!("{code:4} {:>8}\n", grouped(*count));
+        }
+        table
+    }
+}
+
+/// All codes that one line of a transcript shows.
+fn codes_in(line: &str) -> Vec<usize> {
+    let words: Vec<&str> = line.split(' ').collect();
+    let places: &[usize] = match words[0] {
+        "command" | "run" => &[1],
+        "frame" => &[1, 2],
+        "read" | "decoded" => &[1, 3],
+        "record" => return record_code(words.get(1)).into_iter().collect(),
+        _ => &[],
+    };
+    let found = places.iter().filter_map(|place| words.get(*place));
+    found.filter_map(|word| word.parse().ok()).collect()
+}
+
+/// The code is the second byte of a record.
+fn record_code(digits: Option<&&str>) -> Option<usize> {
+    usize::from_str_radix(digits?.get(2..4)?, 16).ok()
+}
+
+/// A number with a comma before each three digits.
+pub fn grouped(number: u64) -> String {
+    let digits = number.to_string();
+    let mut text = String::new();
+    for (place, digit) in digits.chars().enumerate() {
+        if place > 0 && (digits.len() - place).is_multiple_of(3) {
+            text.push(',');
+        }
+        text.push(digit);
+    }
+    text
+}
+
+/// The first line in which two texts differ: its number from 1, and both.
+pub fn first_difference(reference: &str, program: &str) -> Option<(usize, String, String)> {
+    if reference == program {
+        return None;
+    }
+    let mut ours = reference.split_inclusive('\n');
+    let mut theirs = program.split_inclusive('\n');
+    let mut number = 1;
+    loop {
+        let (one, other) = (ours.next(), theirs.next());
+        if one != other {
+            return Some((number, quoted(one), quoted(other)));
+        }
+        // Both cannot end together: the texts would have been equal.
+        one?;
+        number += 1;
+    }
+}
+
+fn quoted(line: Option<&str>) -> String {
+    line.map_or("(no line)".into(), |line| {
+        line.strip_suffix('\n')
+            .map_or(format!("{line} (without line feed)"), String::from)
+    })
+}

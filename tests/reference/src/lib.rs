@@ -1,0 +1,14 @@
+//! A plain reading of the bench rules, kept apart from the product so that a
+//! comparison of the two finds misreadings. It is written to be checked against
+//! the rules line by line; where speed or elegance cost that, they lost.
+
+pub mod bench;
+pub mod codes;
+pub mod command;
+pub mod comparison;
+pub mod frame;
+pub mod list;
+pub mod macros;
+pub mod replay;
+pub mod run;
+pub mod wire;

@@ -1,0 +1,115 @@
+//! The run of two lists, the kit's and then the pupil's, with one record for
+//! each command (codes 20, 21), and the bytes shown for a record.
+
+use crate::bench::Bench;
+use crate::codes::{code_and_parameter, refuse_if, Refusal, LIST_TOO_LONG, REPORT_ROOM_TOO_SMALL};
+use crate::wire::extent;
+
+pub const LONGEST_LIST: usize = 4096;
+pub const SMALLEST_REPORT_ROOM: usize = 8192;
+pub const RECORD_BYTES: usize = 8;
+pub const KIT: u8 = 1;
+pub const PUPIL: u8 = 2;
+
+#[derive(Clone, Copy, Debug, PartialEq, Eq)]
+pub struct Record {
+    pub sender: u8,
+    pub code: u8,
+    pub parameter: u8,
+    pub number: u32,
+}
+
+/// How many records each sender got.
+#[derive(Clone, Copy, Debug, Default, PartialEq, Eq)]
+pub struct Counts {
+    pub kit: usize,
+    pub pupil: usize,
+}
+
+impl Record {
+    pub fn bytes(&self) -> [u8; RECORD_BYTES] {
+        let [a, b, c, d] = self.number.to_be_bytes();
+        [self.sender, self.code, self.parameter, 0, a, b, c, d]
+    }
+}
+
+/// Where each command of the list starts. Codes 1 to 3 take all that is left,
+/// because nobody can tell where another command would start.
+fn starts_of(list: &[u8]) -> Vec<usize> {
+    let mut starts = Vec::new();
+    let mut at = 0;
+    while at < list.len() {
+        starts.push(at);
+        at += extent(&list[at..]).unwrap_or(list.len() - at);
+    }
+    starts
+}
+
+/// The bytes of each command of the list, one after another.
+pub fn commands_of(list: &[u8]) -> Vec<&[u8]> {
+    let rests = starts_of(list).into_iter().map(|start| &list[start..]);
+    rests
+        .map(|rest| &rest[..extent(rest).unwrap_or(rest.len())])
+        .collect()
+}
+
+fn run_one(bench: &mut Bench, sender: u8, list: &[u8], records: &mut Vec<Record>) {
+    for start in starts_of(list) {
+        let own = records.iter().filter(|record| record.sender == sender);
+        let number = own.count() as u32 + 1;
+        let answer = bench.carry_out_bytes(&list[start..]);
+        let (code, parameter) = code_and_parameter(&answer);
+        records.push(Record {
+            sender,
+            code,
+            parameter,
+            number,
+        });
+    }
+}
+
+/// Both lists in turn, recorded but not yet reported anywhere.
+pub fn records_of(bench: &mut Bench, kit: &[u8], pupil: &[u8]) -> Vec<Record> {
+    let mut records = Vec::new();
+    run_one(bench, KIT, kit, &mut records);
+    run_one(bench, PUPIL, pupil, &mut records);
+    records
+}
+
+/// Runs both lists and writes the records one after another into the room.
+pub fn run_lists(
+    bench: &mut Bench,
+    kit: &[u8],
+    pupil: &[u8],
+    room: &mut [u8],
+) -> Result<Counts, Refusal> {
+    refuse_if(either_too_long(kit, pupil), LIST_TOO_LONG)?;
+    refuse_if(room.len() < SMALLEST_REPORT_ROOM, REPORT_ROOM_TOO_SMALL)?;
+    let records = records_of(bench, kit, pupil);
+    for (record, place) in records.iter().zip(room.chunks_exact_mut(RECORD_BYTES)) {
+        place.copy_from_slice(&record.bytes());
+    }
+    let count = |sender| records.iter().filter(|one| one.sender == sender).count();
+    Ok(Counts {
+        kit: count(KIT),
+        pupil: count(PUPIL),
+    })
+}
+
+fn either_too_long(kit: &[u8], pupil: &[u8]) -> bool {
+    kit.len() > LONGEST_LIST || pupil.len() > LONGEST_LIST
+}
+
+/// The bytes of a sender's command by its number; empty where none has it.
+pub fn shown<'a>(kit: &'a [u8], pupil: &'a [u8], sender: u8, number: u32) -> &'a [u8] {
+    if either_too_long(kit, pupil) {
+        return &[];
+    }
+    let list = match sender {
+        KIT => kit,
+        PUPIL => pupil,
+        _ => return &[],
+    };
+    let mut numbered = (1..).zip(commands_of(list));
+    numbered.find(|(n, _)| *n == number).map_or(&[], |it| it.1)
+}

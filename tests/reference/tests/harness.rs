@@ -1,0 +1,67 @@
+//! The comparison's own tools: that its scripts are what they should be, that
+//! it sees differences and codes, and that it makes a script smaller.
+
+use reference::comparison::items::{command, fresh, second, status, Item};
+use reference::comparison::rng::Rng;
+use reference::comparison::shrink::shrunk;
+use reference::comparison::tally::{first_difference, grouped, Tally};
+use reference::comparison::{fixed, random};
+use reference::replay::{transcript, LONGEST_SCRIPT};
+
+#[test]
+fn random_scripts_are_whole_and_the_same_again() {
+    for index in 0..3 {
+        let script = random::script(Rng::stream(7, index)).concat();
+        assert!(script.len() <= LONGEST_SCRIPT);
+        assert!(!transcript(&script).contains("bad script"));
+        assert_eq!(script, random::script(Rng::stream(7, index)).concat());
+    }
+}
+
+#[test]
+fn one_fixed_script_is_too_long_and_twelve_are_bad() {
+    let transcripts: Vec<String> = fixed::scripts()
+        .iter()
+        .map(|script| transcript(&script.concat()))
+        .collect();
+    let ending = |end: &str| {
+        transcripts
+            .iter()
+            .filter(|text| text.ends_with(end))
+            .count()
+    };
+    assert_eq!(ending("too long\n"), 1);
+    assert_eq!(ending("bad script\n"), 12);
+}
+
+#[test]
+fn shrinking_keeps_the_items_that_matter() {
+    let wanted = [command(&[1]), command(&[2])];
+    let mut items: Vec<Item> = vec![status(); 40];
+    items[3] = wanted[0].clone();
+    items[31] = wanted[1].clone();
+    items[38] = fresh();
+    let mut differs = |fewer: &[Item]| wanted.iter().all(|item| fewer.contains(item));
+    assert_eq!(shrunk(&items, 35, &mut differs), wanted);
+    // Where the guess about the last item is wrong, nothing is lost by it.
+    assert_eq!(shrunk(&items, 5, &mut differs), wanted);
+    assert_eq!(shrunk(&[second()], 0, &mut |_| true), [[0u8; 0]; 0]);
+}
+
+#[test]
+fn codes_are_counted_wherever_a_line_shows_one() {
+    let mut tally = Tally::default();
+    tally.add("command 5 0\nrecord 0213000000000001\nrun 20 0 0\nread 0 0 24\n");
+    tally.add("frame 0 24\nframe 22\ndecoded 11 0 9\npassed 7\nstatus 27\nsecond 0 none\n");
+    let missing = [1, 2, 3, 4, 6, 7, 8, 10, 12, 13, 14, 15, 16, 17, 18, 21, 23];
+    assert_eq!(tally.missing(), missing);
+    assert_eq!(grouped(1_234_567), "1,234,567");
+}
+
+#[test]
+fn a_missing_line_is_a_difference() {
+    let (line, expected, found) = first_difference("a\nb\n", "a\n").expect("they differ");
+    assert_eq!((line, &expected[..], &found[..]), (2, "b", "(no line)"));
+    assert!(first_difference("a\n", "a").is_some());
+    assert!(first_difference("a\n", "a\n").is_none());
+}

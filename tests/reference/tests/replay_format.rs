@@ -1,0 +1,116 @@
+//! One small script for each sort of item, with the transcript it must give,
+//! written by hand.
+
+use reference::command::Kind;
+use reference::comparison::items::{
+    append, command, decoded, frame, fresh, now, passed, raw, read, run, second, shown, status,
+};
+use reference::replay::transcript;
+
+const FRESH_STATUS: &str = "0000000100000001000000000000000000000000000000000000ffff00000000";
+
+fn answer(items: &[Vec<u8>]) -> String {
+    transcript(&items.concat())
+}
+
+#[test]
+fn a_command_a_second_and_a_status() {
+    let flush = raw(false, Kind::TlmFlush, [0; 2]);
+    let items = [status(), command(&flush), second(), command(&[]), fresh()];
+    let expected = format!("status {FRESH_STATUS}\ncommand 0 0\nsecond 0 none\ncommand 1 0\n");
+    assert_eq!(answer(&items), expected);
+}
+
+#[test]
+fn what_a_macro_hands_over() {
+    let goal = raw(true, Kind::TrkGoal, [0x43ff_c000, 0x8000_0000]);
+    let items = [
+        now(Kind::Open, 4),
+        append(Kind::TlmFlush, 0),
+        append(Kind::Wait, 1),
+        command(&goal),
+        now(Kind::Close, 0),
+        now(Kind::Run, 4),
+        second(),
+        second(),
+        status(),
+        second(),
+        now(Kind::Run, 4),
+        passed(9),
+    ];
+    let expected = "command 0 0\n".repeat(6)
+        + "second 0 tlm_flush\nsecond 0 none\n\
+           status 000000010000000100000000000000000000000000000000000104ff00011001\n\
+           second 0 trk_goal 1140834304 2147483648\ncommand 0 0\npassed 2\n";
+    assert_eq!(answer(&items), expected);
+}
+
+#[test]
+fn a_run_of_two_lists() {
+    let flush = raw(false, Kind::TlmFlush, [0; 2]);
+    let bad = raw(false, Kind::ImgImage, [5, 0]);
+    let items = [run(8192, &flush, &bad), run(8191, &flush, &bad), status()];
+    let expected = "run 0 1 1\nrecord 0100000000000001\nrecord 0208020000000001\nrest same\n\
+                    run 21 0 0\nrest same\n\
+                    status 0000000100000001000000000000000000000000000000000001ffff00000000\n";
+    assert_eq!(answer(&items), expected);
+    assert_eq!(
+        answer(&[run(0, &[0; 4097], &[])]),
+        "run 20 0 0\nrest same\n"
+    );
+}
+
+#[test]
+fn the_bytes_shown() {
+    let flush = raw(false, Kind::TlmFlush, [0; 2]);
+    let items = [shown(&[], &flush, 2, 1), shown(&[], &flush, 1, 1)];
+    assert_eq!(answer(&items), "shown 015a0002015a0002\nshown\n");
+}
+
+#[test]
+fn a_frame_read_and_written() {
+    let digits: Vec<u8> = (0..32)
+        .map(|at| u8::from_str_radix(&FRESH_STATUS[2 * at..2 * at + 2], 16).unwrap_or(0))
+        .collect();
+    let items = [
+        frame(32, &digits),
+        frame(31, &digits),
+        frame(32, &digits[1..]),
+    ];
+    let expected = format!("frame 0 0 {FRESH_STATUS}\nframe 0 24\nframe 22\n");
+    assert_eq!(answer(&items), expected);
+    assert_eq!(answer(&[frame(32, &[0; 32])]), "frame 23\n");
+}
+
+#[test]
+fn a_command_read_and_written() {
+    let wait = raw(true, Kind::Wait, [2, 0]);
+    let items = [read(12, &wait), read(11, &wait), read(12, &wait[..11])];
+    let expected = "read 0 0 0 7f048003000200007f068003\nread 0 0 24\nread 3 0\n";
+    assert_eq!(answer(&items), expected);
+}
+
+#[test]
+fn a_decoded_command() {
+    let items = [
+        decoded(2, 15, [0x101, 7]),
+        decoded(0, 6, [0x43ff_c000, 0x7fc0_0000]),
+        decoded(1, 12, [600, 0]),
+        decoded(1, 10, [0, 0]),
+    ];
+    let expected = "decoded 0 0 0 011400030100000000140003\ndecoded 8 2 8\n\
+                    decoded 11 0 0 7f048003025800007d5c8003\ndecoded 9 0 9\n";
+    assert_eq!(answer(&items), expected);
+}
+
+#[test]
+fn scripts_that_end_badly() {
+    assert_eq!(answer(&[]), "");
+    assert_eq!(
+        answer(&[second(), vec![1, 1]]),
+        "second 0 none\nbad script\n"
+    );
+    assert_eq!(answer(&[vec![10], second()]), "bad script\n");
+    assert_eq!(transcript(&vec![4; 65_536]), "");
+    assert_eq!(transcript(&vec![4; 65_537]), "too long\n");
+}
