@@ -1,0 +1,64 @@
+-- Bytes stored from a place on: those of two stores one after another, and what a writer of them leaves.
+use Prim.Native.Nat.{ℕ, suc, _+_, _≤_, _<_}
+use mathlib.Core.Path.{_≡_, sym, ap, _∙_}
+use mathlib.Core.List.{List, [], _∷_, _++_}
+use native.Mathlib.Nat.{add-zero}
+use native.Mathlib.Omega.{arith}
+use native.Mathlib.Numerals.{add-one}
+use lib.ListN.{length, getD, set, take, length-append}
+use lib.Seq.{sets, sets-eq, length-sets, take-suc, length-take-le}
+use borrow.Author.Tests.{le-leb, lt-leb}
+use Rattle.words.specs.BigEndian.{written}
+use Rattle.words.proofs.Laws.{with-room, no-room}
+use Rattle.listing.specs.Answer.{answerFor}
+
+-- Bytes and behind them more bytes are stored as one.
+pub sets-append : (room : List ℕ) (p : ℕ) (xs ys : List ℕ) → sets (sets room p xs) (p + length xs) ys ≡ sets room p (xs ++ ys)
+sets-append room p [] ys = rw add-zero
+sets-append room p (x ∷ xs) ys =
+    let place : p + suc (length xs) ≡ suc p + length xs = omega arith in
+    rw place (sets-append (set room p x) (suc p) xs ys)
+
+-- One byte more of a text.
+pub sets-next : (text room : List ℕ) (i : ℕ) → i < length text → set (sets room 0 (take i text)) i (getD text i 0) ≡ sets room 0 (take (i + 1) text)
+sets-next text room i more =
+    let place : 0 + length (take i text) ≡ i = omega (arith, length-take-le i text (omega arith)) in
+    rw (add-one, take-suc text i 0 more) (rw place at (sets-append room 0 (take i text) (getD text i 0 ∷ [])))
+
+-- Stores from the front on are what a writer with room leaves.
+pub sets-written : (bytes room : List ℕ) → length bytes ≤ length room → sets room 0 bytes ≡ written bytes room
+sets-written bytes room fits =
+    let front : 0 + length bytes ≡ length bytes = omega arith in
+    sets-eq bytes room 0 (omega arith) ∙ rw (front, with-room bytes room fits)
+
+-- So many bytes of a text are laid down at the front of a room.
+pub record Laid (bytes room₀ room : List ℕ) (at : ℕ) : Type 0 where
+  pub place : at ≡ length bytes
+  pub stored : room ≡ sets room₀ 0 bytes
+
+-- The room keeps its length; more bytes have room and are laid down behind; and all of them are what a writer with room answers and leaves.
+module _ {bytes room₀ room : List ℕ} {at : ℕ} (laid : Laid bytes room₀ room at) where
+  pub laid-length : length room ≡ length room₀
+  laid-length = ap length (laid .stored) ∙ length-sets room₀ 0 bytes
+
+  pub laid-fits : (more : List ℕ) → length bytes + length more ≤ length room₀ → at + length more ≤ length room
+  laid-fits more fits = omega (arith, laid .place, laid-length)
+
+  pub laid-more : (more room' : List ℕ) (at' : ℕ) → at' ≡ at + length more → room' ≡ sets room at more → Laid (bytes ++ more) room₀ room' at'
+  laid-more more room' at' next put =
+      let front : 0 + length bytes ≡ length bytes = omega arith in
+      record {
+        place = next ∙ omega (arith, laid .place, length-append bytes more);
+        stored = put ∙ rw (laid .place, laid .stored) (rw front at (sets-append room₀ 0 bytes more));
+      }
+
+  pub laid-all : length bytes ≤ length room₀ → (record { code = 0; bytes = at } ≡ answerFor bytes room₀) × (room ≡ written bytes room₀)
+  laid-all fits = (
+    simp (le-leb _ _ fits, laid .place),
+    laid .stored ∙ sets-written bytes room₀ fits,
+  )
+
+-- What a writer without room answers and leaves.
+pub no-answer : (bytes room : List ℕ) → length room < length bytes
+    → (record { code = 24; bytes = 0 } ≡ answerFor bytes room) × (room ≡ written bytes room)
+no-answer bytes room short = (simp (lt-leb _ _ short), sym (no-room bytes room short))

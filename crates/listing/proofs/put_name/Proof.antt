@@ -1,0 +1,70 @@
+-- `put_name` meets its contract, by the cases of a sender.
+use mathlib.Core.Path.{_≡_, ap}
+use native.Mathlib.Omega.{arith}
+use lib.ListN.{length}
+use borrow.Author.Needs.{needs}
+use Rattle.listing.specs.Text.{ascii, ended, blank, nameOf}
+use Rattle.listing.proofs.Lines.{name-kit, name-pupil, name-other}
+use Rattle.listing.proofs.put_name.Statement.{statement}
+use Rattle.listing.proofs.put_name.Tie as tie
+
+-- The name in each branch.
+kit : (c : tie.Then1) → nameOf (c .before .before .args .sender) ≡ ascii "kit "
+kit c = name-kit (c .before .before .args .sender) (c .if1 .taken)
+
+pupil : (c : tie.Then2) → nameOf (c .before .before .before .args .sender) ≡ ascii "pupil "
+pupil c = name-pupil (c .before .before .before .args .sender) (c .before .if1 .left) (c .if2 .taken)
+
+other : (c : tie.Else2) → nameOf (c .before .before .before .args .sender) ≡ ended (c .before .before .before .args .sender) blank
+other c = name-other (c .before .before .before .args .sender) (c .before .if1 .left) (c .if2 .left)
+
+slice-aggregate-put-text : tie.Need-slice-aggregate-put-text
+slice-aggregate-put-text c = search needs
+
+put-text-requires : tie.Need-put-text-requires
+put-text-requires c κs = omega (arith, ap length (kit (c .before .before)))
+
+same-length : tie.Need-same-length
+same-length c = search needs
+
+returns : tie.Need-returns
+returns c = rw (kit (c .before .before .before .before .before)) (c .before .before .put-text .ensures)
+
+slice-aggregate-put-text-2 : tie.Need-slice-aggregate-put-text-2
+slice-aggregate-put-text-2 c = search needs
+
+put-text-requires-2 : tie.Need-put-text-requires-2
+put-text-requires-2 c κs = omega (arith, ap length (pupil (c .before .before)))
+
+same-length-2 : tie.Need-same-length-2
+same-length-2 c = search needs
+
+returns-2 : tie.Need-returns-2
+returns-2 c = rw (pupil (c .before .before .before .before .before)) (c .before .before .put-text2 .ensures)
+
+put-field-requires : tie.Need-put-field-requires
+put-field-requires c κs = omega (arith, ap length (other (c .before)))
+
+same-length-3 : tie.Need-same-length-3
+same-length-3 c = search needs
+
+returns-3 : tie.Need-returns-3
+returns-3 c =
+    let put = c .before .before .put-field .ensures in
+    rw (other (c .before .before .before .before)) (omega (arith, put .0), put .1)
+
+pub put-name-spec : {M : Type 1} → statement M
+put-name-spec =
+    tie.close
+    (tie.spec
+    slice-aggregate-put-text
+    put-text-requires
+    same-length
+    returns
+    slice-aggregate-put-text-2
+    put-text-requires-2
+    same-length-2
+    returns-2
+    put-field-requires
+    same-length-3
+    returns-3)
