@@ -1,0 +1,127 @@
+// The items with one command: 01 carries it out from bytes, 09 carries out a decoded one and writes it; 07 reads one and, where it is taken,
+// writes it again.
+use super::items::FILL;
+use super::items::ROOM;
+use super::items::State;
+use super::names;
+use super::output;
+use super::script;
+use bench::Verdict;
+use wire::Command;
+use wire::Reading;
+use wire::Writing;
+
+// Room for the longest command.
+const LONGEST: usize = 16;
+
+// The code of writing a command and, where that is 0, the bytes written.
+fn written(out: &mut [u8], used: usize, command: Command, room: &mut [u8]) -> usize {
+    match wire::write_command(command, room) {
+        Writing::Written(count) => {
+            let used = output::number(out, used, 0);
+            output::hex(out, used, script::front(room, count))
+        }
+        Writing::Refused(refusal) => {
+            let told = wire::told_of(refusal);
+            output::number(out, used, told.code as u64)
+        }
+    }
+}
+
+// The code and parameter of reading a command and, where they are 0, what writing it gives.
+fn taken(out: &mut [u8], used: usize, bytes: &[u8], room: &mut [u8]) -> usize {
+    match wire::read_command(bytes) {
+        Reading::Taken(command) => {
+            let used = output::text(out, used, b" 0 0");
+            written(out, used, command, room)
+        }
+        Reading::Refused(refusal) => output::told(out, used, wire::told_of(refusal)),
+    }
+}
+
+fn read_line(out: &mut [u8], used: usize, bytes: &[u8], length: u8) -> usize {
+    let mut room = [FILL; ROOM];
+    let length = length as usize;
+    let used = output::text(out, used, b"read");
+    let used = taken(out, used, bytes, &mut room[0..length]);
+    output::end(out, used)
+}
+
+// 07, a room's length of one byte, and the bytes of a command: `read CODE PAR`, or `read 0 0 CODE` with the code of the writing and the bytes.
+pub fn read(state: State, s: &[u8], out: &mut [u8]) -> State {
+    let length = script::take(s, state.at, 1);
+    let bytes = script::take_short(s, length.to);
+    if !bytes.whole {
+        return state.bad(out);
+    }
+    let length = words::byte_at(s, length.from);
+    let used = read_line(out, state.used, script::bytes(s, bytes), length);
+    state.answered(bytes.to, used)
+}
+
+fn carried_line(out: &mut [u8], used: usize, verdict: Verdict) -> usize {
+    let used = output::text(out, used, b"command");
+    let used = output::told(out, used, bench::told_of(verdict));
+    output::end(out, used)
+}
+
+// 01, the bytes of a command: `command CODE PAR`.
+pub fn carry_out(state: State, s: &[u8], out: &mut [u8]) -> State {
+    let bytes = script::take_short(s, state.at);
+    if !bytes.whole {
+        return state.bad(out);
+    }
+    let bench = state.bench;
+    let carried = bench.carry_out_bytes(script::bytes(s, bytes));
+    let verdict = carried.verdict;
+    let used = carried_line(out, state.used, verdict);
+    let bench = carried.bench;
+    State {
+        bench,
+        at: bytes.to,
+        used,
+        ..state
+    }
+}
+
+fn decoded_line(out: &mut [u8], used: usize, command: Command, verdict: Verdict) -> usize {
+    let mut room = [FILL; LONGEST];
+    let used = output::text(out, used, b"decoded");
+    let used = output::told(out, used, bench::told_of(verdict));
+    let used = written(out, used, command, &mut room);
+    output::end(out, used)
+}
+
+// A decoded command of the flag's last bit, a row of the table of commands, and two arguments.
+fn decoded(flag: u8, row: u8, first: u32, second: u32) -> Command {
+    let kind = wire::kind_of(names::form_at(row), first, second);
+    Command {
+        flag: flag % 2 == 1,
+        kind,
+    }
+}
+
+// 09, a flag, a row and two arguments of four bytes: `decoded CODE PAR CODE`, with the second code of the writing, and the bytes.
+pub fn carry_out_decoded(state: State, s: &[u8], out: &mut [u8]) -> State {
+    let flag = script::take(s, state.at, 1);
+    let row = script::take(s, flag.to, 1);
+    let first = script::take(s, row.to, 4);
+    let second = script::take(s, first.to, 4);
+    if !second.whole {
+        return state.bad(out);
+    }
+    let flag = words::byte_at(s, flag.from);
+    let row = words::byte_at(s, row.from);
+    let command = decoded(flag, row, words::word_at(s, first.from), words::word_at(s, second.from));
+    let bench = state.bench;
+    let carried = bench.carry_out(command);
+    let verdict = carried.verdict;
+    let used = decoded_line(out, state.used, command, verdict);
+    let bench = carried.bench;
+    State {
+        bench,
+        at: second.to,
+        used,
+        ..state
+    }
+}

@@ -1,0 +1,82 @@
+// The items with a status frame: 02 prints the bench's own; 06 reads one and, where it is taken, writes it again.
+use super::items::FILL;
+use super::items::ROOM;
+use super::items::State;
+use super::output;
+use super::script;
+use bench::Status;
+use bench::Verdict;
+use frame::Frame;
+use frame::Reading;
+use frame::Refusal;
+use frame::Writing;
+
+// The frame's bytes, or the code where the bench has none.
+fn status_words(out: &mut [u8], used: usize, status: Status) -> usize {
+    match status {
+        Status::Known(f) => {
+            let mut room = [FILL; frame::SIZE];
+            frame::write_frame(f, &mut room);
+            output::hex(out, used, &room)
+        }
+        Status::Unsound => {
+            let told = bench::told_of(Verdict::Unsound);
+            output::number(out, used, told.code as u64)
+        }
+    }
+}
+
+// 02: `status` and the bytes of the frame, or `status CODE`.
+pub fn status(state: State, out: &mut [u8]) -> State {
+    let bench = state.bench;
+    let used = output::text(out, state.used, b"status");
+    let used = status_words(out, used, bench.status());
+    let used = output::end(out, used);
+    state.answered(state.at, used)
+}
+
+fn refused(out: &mut [u8], used: usize, refusal: Refusal) -> usize {
+    output::number(out, used, frame::code_of(refusal) as u64)
+}
+
+// The code of writing a frame and, where that is 0, the bytes written.
+fn written(out: &mut [u8], used: usize, f: Frame, room: &mut [u8]) -> usize {
+    match frame::write_frame(f, room) {
+        Writing::Written => {
+            let used = output::number(out, used, 0);
+            output::hex(out, used, script::front(room, frame::SIZE))
+        }
+        Writing::Refused(refusal) => refused(out, used, refusal),
+    }
+}
+
+// The code of reading a frame and, where that is 0, what writing it gives.
+fn taken(out: &mut [u8], used: usize, bytes: &[u8], room: &mut [u8]) -> usize {
+    match frame::read_frame(bytes) {
+        Reading::Taken(f) => {
+            let used = output::number(out, used, 0);
+            written(out, used, f, room)
+        }
+        Reading::Refused(refusal) => refused(out, used, refusal),
+    }
+}
+
+fn line(out: &mut [u8], used: usize, bytes: &[u8], length: u8) -> usize {
+    let mut room = [FILL; ROOM];
+    let length = length as usize;
+    let used = output::text(out, used, b"frame");
+    let used = taken(out, used, bytes, &mut room[0..length]);
+    output::end(out, used)
+}
+
+// 06, a room's length of one byte, and the bytes of a frame: `frame CODE`, or `frame 0 CODE` with the code of the writing and the bytes.
+pub fn read(state: State, s: &[u8], out: &mut [u8]) -> State {
+    let length = script::take(s, state.at, 1);
+    let bytes = script::take_short(s, length.to);
+    if !bytes.whole {
+        return state.bad(out);
+    }
+    let length = words::byte_at(s, length.from);
+    let used = line(out, state.used, script::bytes(s, bytes), length);
+    state.answered(bytes.to, used)
+}
