@@ -112,7 +112,12 @@ pub fn carry_out_decoded(state: State, s: &[u8], out: &mut [u8]) -> State {
     }
     let flag = words::byte_at(s, flag.from);
     let row = words::byte_at(s, row.from);
-    let command = decoded(flag, row, words::word_at(s, first.from), words::word_at(s, second.from));
+    let command = decoded(
+        flag,
+        row,
+        words::word_at(s, first.from),
+        words::word_at(s, second.from),
+    );
     let bench = state.bench;
     let carried = bench.carry_out(command);
     let verdict = carried.verdict;

@@ -14,7 +14,11 @@ const LARGEST: usize = 9000;
 fn capped(length: u16) -> usize
     ensures { λ r. ⌜ r ≤ 9000 ⌝ }
 {
-    if (length as usize) < LARGEST { length as usize } else { LARGEST }
+    if (length as usize) < LARGEST {
+        length as usize
+    } else {
+        LARGEST
+    }
 }
 
 fn code_of(begun: Begun) -> u8 {

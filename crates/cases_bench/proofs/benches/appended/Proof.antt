@@ -1,0 +1,33 @@
+-- `appended` ends: the entries that are left fall.
+use Prim.Native.Nat.{_-_}
+use borrow.Author.Needs.{needs}
+use Rattle.cases_bench.proofs.benches.appended.Statement.{statement}
+use Rattle.cases_bench.proofs.benches.appended.Tie as tie
+
+abbrev Inv-loop : tie.InvT-loop
+Inv-loop kind times b₀ k₀ b k = Unit {0}
+
+abbrev μ-loop : tie.MeasureT-loop
+μ-loop kind times b₀ k₀ b k = times - k
+
+loop-holds : tie.Need-loop-holds Inv-loop μ-loop
+loop-holds c = search needs
+
+did-requires : tie.Need-did-requires Inv-loop μ-loop
+did-requires c κs = search needs
+
+add-k : tie.Need-add-k Inv-loop μ-loop
+add-k c = search needs
+
+loop-less : tie.Need-loop-less Inv-loop μ-loop
+loop-less c = search needs
+
+loop-again : tie.Need-loop-again Inv-loop μ-loop
+loop-again c = search needs
+
+returns : tie.Need-returns Inv-loop μ-loop
+returns c = search needs
+
+pub appended-spec : {M : Type 1} → statement M
+appended-spec =
+    tie.close (tie.spec Inv-loop μ-loop loop-holds did-requires add-k loop-less loop-again returns)

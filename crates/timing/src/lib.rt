@@ -1,0 +1,319 @@
+// The jobs that `speed/` measures: each exported function does one job many times over, so that the call itself costs nothing, and folds what
+// comes out into one number, so that none of the work can be left out. Bytes go in and out as slices.
+use bench::Bench;
+use bench::Status;
+use frame::Frame;
+use store::Handed;
+use wire::Command;
+
+// The commands that are read or written in turn, and how far apart they lie.
+const COMMANDS: usize = 16;
+
+const COMMAND: usize = 16;
+// The frames that are read or written in turn.
+const FRAMES: usize = 8;
+
+// A number that depends on every number folded in so far.
+fn mixed(sum: u64, value: u64) -> u64 {
+    std::num::wrapping_add_u64(sum ^ (sum / 8), value)
+}
+
+fn with_command(sum: u64, command: Command) -> u64 {
+    let kind = command.kind;
+    let parts = wire::parts_of(kind);
+    let first = mixed(sum, parts.first as u64);
+    let second = mixed(first, parts.second as u64);
+    if command.flag {
+        mixed(second, 1)
+    } else {
+        second
+    }
+}
+
+fn with_handed(sum: u64, handed: Handed) -> u64 {
+    match handed {
+        Handed::Nothing => mixed(sum, 0),
+        Handed::Over(kind) => with_command(sum, Command { flag: true, kind }),
+    }
+}
+
+fn with_frame(sum: u64, f: Frame) -> u64 {
+    let image = f.image;
+    let track = f.track;
+    let times = mixed(mixed(sum, image.time as u64), track.time as u64);
+    let intervals = mixed(mixed(times, image.interval as u64), track.interval as u64);
+    let counts = mixed(mixed(intervals, image.count as u64), track.count as u64);
+    let region = mixed(mixed(counts, f.x as u64), f.y as u64);
+    let goal = mixed(mixed(region, f.xgoal as u64), f.ygoal as u64);
+    with_macros(with_modes(goal, f), f.running, f.opened, f.left, f.closed)
+}
+
+fn with_macros(sum: u64, running: u8, opened: u8, left: u16, closed: u8) -> u64 {
+    let macros = mixed(mixed(sum, running as u64), opened as u64);
+    mixed(mixed(macros, left as u64), closed as u64)
+}
+
+fn with_bit(sum: u64, on: bool) -> u64 {
+    if on { mixed(sum, 1) } else { mixed(sum, 0) }
+}
+
+fn with_modes(sum: u64, f: Frame) -> u64 {
+    let power = with_bit(sum, f.power);
+    let auto = with_bit(power, f.auto);
+    let tracking = with_bit(auto, f.tracking);
+    mixed(mixed(tracking, f.algorithm as u64), f.flushes as u64)
+}
+
+fn read_one(sum: u64, bytes: &[u8]) -> u64 {
+    match wire::read_command(bytes) {
+        wire::Reading::Taken(command) => with_command(sum, command),
+        wire::Reading::Refused(refusal) => {
+            let told = wire::told_of(refusal);
+            mixed(mixed(sum, told.code as u64), told.par as u64)
+        }
+    }
+}
+
+// Reads a command so many times, in turn each of the sixteen that lie sixteen bytes apart.
+#[no_mangle]
+pub extern "C" fn timing_read(bytes: &[u8], times: u32) -> u64 {
+    if bytes.len() < COMMANDS * COMMAND {
+        return 0;
+    }
+    let mut sum: u64 = 0;
+    let mut i: u32 = 0;
+    while i < times {
+        let at = (i as usize) % COMMANDS * COMMAND;
+        sum = read_one(sum, &bytes[at..]);
+        i += 1;
+    }
+    sum
+}
+
+// The command at the front; a flush where there is none.
+fn command_of(bytes: &[u8]) -> Command {
+    match wire::read_command(bytes) {
+        wire::Reading::Taken(command) => command,
+        wire::Reading::Refused(_) => Command {
+            flag: false,
+            kind: wire::Kind::TlmFlush,
+        },
+    }
+}
+
+fn commands_of(bytes: &[u8]) -> [Command; 16] {
+    let none = Command {
+        flag: false,
+        kind: wire::Kind::TlmFlush,
+    };
+    let mut commands = [none; 16];
+    let mut i: usize = 0;
+    while i < COMMANDS {
+        let at = i * COMMAND;
+        if at < bytes.len() {
+            commands[i] = command_of(&bytes[at..]);
+        }
+        i += 1;
+    }
+    commands
+}
+
+fn write_one(sum: u64, command: Command, room: &mut [u8]) -> u64 {
+    match wire::write_command(command, room) {
+        wire::Writing::Written(size) => mixed(sum, size as u64),
+        wire::Writing::Refused(refusal) => {
+            let told = wire::told_of(refusal);
+            mixed(mixed(sum, told.code as u64), told.par as u64)
+        }
+    }
+}
+
+// Writes a command so many times, in turn each of the sixteen that lie sixteen bytes apart in `bytes`, to the same place of the room.
+#[no_mangle]
+pub extern "C" fn timing_write(bytes: &[u8], room: &mut [u8], times: u32) -> u64 {
+    if room.len() < COMMANDS * COMMAND {
+        return 0;
+    }
+    let commands = commands_of(bytes);
+    let mut sum: u64 = 0;
+    let mut i: u32 = 0;
+    while i < times {
+        let k = (i as usize) % COMMANDS;
+        let at = k * COMMAND;
+        let command = commands[k];
+        sum = write_one(sum, command, &mut room[at..]);
+        i += 1;
+    }
+    sum
+}
+
+fn read_frame_one(sum: u64, bytes: &[u8]) -> u64 {
+    match frame::read_frame(bytes) {
+        frame::Reading::Taken(f) => with_frame(sum, f),
+        frame::Reading::Refused(refusal) => mixed(sum, frame::code_of(refusal) as u64),
+    }
+}
+
+// Reads a frame so many times, in turn each of the eight that lie one after another.
+#[no_mangle]
+pub extern "C" fn timing_frame_read(bytes: &[u8], times: u32) -> u64 {
+    if bytes.len() < FRAMES * frame::SIZE {
+        return 0;
+    }
+    let mut sum: u64 = 0;
+    let mut i: u32 = 0;
+    while i < times {
+        let at = (i as usize) % FRAMES * frame::SIZE;
+        let end = at + frame::SIZE;
+        sum = read_frame_one(sum, &bytes[at..end]);
+        i += 1;
+    }
+    sum
+}
+
+fn idle_frame() -> Frame {
+    let pace = frame::Pace {
+        time: 0,
+        interval: 1,
+        count: 0,
+    };
+    Frame {
+        image: pace,
+        track: pace,
+        x: 0,
+        y: 0,
+        xgoal: 0,
+        ygoal: 0,
+        power: false,
+        auto: false,
+        tracking: false,
+        algorithm: 0,
+        flushes: 0,
+        running: 255,
+        opened: 255,
+        left: 0,
+        closed: 0,
+    }
+}
+
+// The frame that these bytes are; an idle one where they are none.
+fn frame_of(bytes: &[u8]) -> Frame {
+    match frame::read_frame(bytes) {
+        frame::Reading::Taken(f) => f,
+        frame::Reading::Refused(_) => idle_frame(),
+    }
+}
+
+fn frames_of(bytes: &[u8]) -> [Frame; 8] {
+    let none = idle_frame();
+    let mut frames = [none; 8];
+    let mut i: usize = 0;
+    while i < FRAMES {
+        let at = i * frame::SIZE;
+        let end = at + frame::SIZE;
+        if end <= bytes.len() {
+            frames[i] = frame_of(&bytes[at..end]);
+        }
+        i += 1;
+    }
+    frames
+}
+
+fn write_frame_one(sum: u64, f: Frame, room: &mut [u8]) -> u64 {
+    match frame::write_frame(f, room) {
+        frame::Writing::Written => mixed(sum, 0),
+        frame::Writing::Refused(refusal) => mixed(sum, frame::code_of(refusal) as u64),
+    }
+}
+
+// Writes a frame so many times, in turn each of the eight that lie one after another in `bytes`, to the same place of the room.
+#[no_mangle]
+pub extern "C" fn timing_frame_write(bytes: &[u8], room: &mut [u8], times: u32) -> u64 {
+    if room.len() < FRAMES * frame::SIZE {
+        return 0;
+    }
+    let frames = frames_of(bytes);
+    let mut sum: u64 = 0;
+    let mut i: u32 = 0;
+    while i < times {
+        let k = (i as usize) % FRAMES;
+        let at = k * frame::SIZE;
+        let f = frames[k];
+        sum = write_frame_one(sum, f, &mut room[at..]);
+        i += 1;
+    }
+    sum
+}
+
+fn with_status(sum: u64, bench: Bench) -> u64 {
+    match bench.status() {
+        Status::Known(f) => with_frame(sum, f),
+        Status::Unsound => mixed(sum, 27),
+    }
+}
+
+// A bench after some work, and what came out of it folded into one number.
+pub struct Later {
+    pub bench: Bench,
+    pub sum: u64,
+}
+
+// A fresh bench runs these two lists.
+fn one_run(sum: u64, kit: &[u8], pupil: &[u8], room: &mut [u8]) -> Later {
+    let ran = Bench::fresh().run(kit, pupil, room);
+    let bench = ran.bench;
+    let sum = mixed(mixed(sum, ran.kit as u64), ran.pupil as u64);
+    Later { bench, sum }
+}
+
+// Runs these two lists so many times, each time on a fresh bench; then the fields of the last one's status.
+#[no_mangle]
+pub extern "C" fn timing_run(kit: &[u8], pupil: &[u8], room: &mut [u8], times: u32) -> u64 {
+    let mut sum: u64 = 0;
+    let mut last = Bench::fresh();
+    let mut i: u32 = 0;
+    while i < times {
+        let done = one_run(sum, kit, pupil, room);
+        last = done.bench;
+        sum = done.sum;
+        i += 1;
+    }
+    with_status(sum, last)
+}
+
+// So many seconds pass.
+fn passing(bench: Bench, sum: u64, seconds: u32) -> Later {
+    let mut bench = bench;
+    let mut sum = sum;
+    let mut i: u32 = 0;
+    while i < seconds {
+        let passed = bench.second();
+        bench = passed.bench;
+        let handed = passed.handed;
+        sum = with_handed(sum, handed);
+        i += 1;
+    }
+    Later { bench, sum }
+}
+
+// So many times over, this bench passes so many seconds; then the fields of the last one's status.
+fn passing_again(start: Bench, seconds: u32, times: u32) -> u64 {
+    let mut last = start;
+    let mut sum: u64 = 0;
+    let mut i: u32 = 0;
+    while i < times {
+        let done = passing(start, sum, seconds);
+        last = done.bench;
+        sum = done.sum;
+        i += 1;
+    }
+    with_status(sum, last)
+}
+
+// A fresh bench runs this list; then, so many times over, that bench passes so many seconds.
+#[no_mangle]
+pub extern "C" fn timing_seconds(list: &[u8], room: &mut [u8], seconds: u32, times: u32) -> u64 {
+    let ran = Bench::fresh().run(&list[..0], list, room);
+    let start = ran.bench;
+    passing_again(start, seconds, times)
+}

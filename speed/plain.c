@@ -1,0 +1,683 @@
+/* The bench of 01-scope.md in plain C, written from that page: the state is one struct that is passed by pointer and changed in place.
+   It does the same jobs as crates/timing and folds their results in the same way. */
+#include "plain.h"
+#include <stdbool.h>
+#include <string.h>
+
+enum { MACROS = 8, ENTRIES = 24, NONE = 255, LONGEST = 600, FOR_EVER = 65535, LIST = 4096, ROOM = 8192 };
+
+enum kind {
+    IMG_PWR, IMG_REGION, IMG_TRACK, TRK_ALG, TRK_LOOP, IMG_IMAGE, TRK_GOAL, TLM_FLUSH, FLUSH_AUTO, OPEN, CLOSE, RUN, WAIT, STOP, CLEAR
+};
+
+struct command {
+    bool flag;
+    uint8_t kind;
+    union {
+        uint8_t mode;                       /* the kinds with one byte: a mode or a macro's number */
+        uint16_t seconds;
+        struct { uint16_t first, second; }; /* X and Y, or time and interval */
+        struct { float x, y; };
+    };
+};
+
+struct series {
+    uint16_t time, interval, next, count;
+};
+
+struct bench {
+    struct series image, track;
+    uint16_t x, y;
+    float xgoal, ygoal;
+    bool power, automatic, loop;
+    uint8_t algorithm, flushes;
+    uint8_t running, opened;
+    uint16_t left;
+    struct command entries[MACROS][ENTRIES];
+    uint8_t counts[MACROS];
+    bool closed[MACROS];
+};
+
+struct frame {
+    uint16_t image_time, image_interval, track_time, track_interval, images, tracks, x, y;
+    uint32_t xgoal, ygoal;
+    bool power, automatic, loop;
+    uint8_t algorithm, flushes, running, opened;
+    uint16_t left;
+    uint8_t closed;
+};
+
+struct told {
+    uint8_t code, par;
+};
+
+static uint16_t get16(const uint8_t *s)
+{
+    return (uint16_t)(s[0] << 8 | s[1]);
+}
+
+static uint32_t get32(const uint8_t *s)
+{
+    return (uint32_t)s[0] << 24 | (uint32_t)s[1] << 16 | (uint32_t)s[2] << 8 | s[3];
+}
+
+static void put16(uint8_t *s, uint16_t v)
+{
+    s[0] = (uint8_t)(v >> 8);
+    s[1] = (uint8_t)v;
+}
+
+static void put32(uint8_t *s, uint32_t v)
+{
+    s[0] = (uint8_t)(v >> 24);
+    s[1] = (uint8_t)(v >> 16);
+    s[2] = (uint8_t)(v >> 8);
+    s[3] = (uint8_t)v;
+}
+
+static float single(uint32_t bits)
+{
+    float x;
+    memcpy(&x, &bits, 4);
+    return x;
+}
+
+static uint32_t bits(float x)
+{
+    uint32_t v;
+    memcpy(&v, &x, 4);
+    return v;
+}
+
+static struct told told(uint8_t code, uint8_t par)
+{
+    struct told t = { code, par };
+    return t;
+}
+
+static bool goal_allowed(uint32_t v)
+{
+    return v <= 0x447fffff || v == 0x80000000;
+}
+
+/* Codes 8 to 10 on a decoded command. */
+static struct told judge(const struct command *c)
+{
+    switch (c->kind) {
+    case IMG_PWR: case TRK_LOOP: case FLUSH_AUTO:
+        if (c->mode > 1) return told(8, 1);
+        break;
+    case TRK_ALG:
+        if (c->mode > 2) return told(8, 1);
+        break;
+    case OPEN: case RUN:
+        if (c->mode >= MACROS) return told(8, 1);
+        break;
+    case WAIT:
+        if (c->seconds < 1 || c->seconds > LONGEST) return told(8, 1);
+        break;
+    case IMG_REGION:
+        if (c->first > 1023) return told(8, 1);
+        if (c->second > 1023) return told(8, 2);
+        break;
+    case IMG_TRACK: case IMG_IMAGE:
+        if (c->second < 1) return told(8, 2);
+        break;
+    case TRK_GOAL:
+        if (!goal_allowed(bits(c->x))) return told(8, 1);
+        if (!goal_allowed(bits(c->y))) return told(8, 2);
+        break;
+    }
+    if (c->flag && (c->kind == OPEN || c->kind == CLOSE || c->kind == STOP || c->kind == CLEAR)) return told(9, 0);
+    if (!c->flag && c->kind == WAIT) return told(10, 0);
+    return told(0, 0);
+}
+
+static int kind_of(uint16_t opcode, unsigned *words)
+{
+    switch (opcode) {
+    case 0x0114: *words = 3; return IMG_PWR;
+    case 0x0117: *words = 3; return IMG_REGION;
+    case 0x0118: *words = 3; return IMG_TRACK;
+    case 0x0148: *words = 3; return TRK_ALG;
+    case 0x014b: *words = 3; return TRK_LOOP;
+    case 0x0150: *words = 3; return IMG_IMAGE;
+    case 0x0153: *words = 4; return TRK_GOAL;
+    case 0x015a: *words = 2; return TLM_FLUSH;
+    case 0x015c: *words = 3; return FLUSH_AUTO;
+    case 0x7f01: *words = 3; return OPEN;
+    case 0x7f02: *words = 2; return CLOSE;
+    case 0x7f03: *words = 3; return RUN;
+    case 0x7f04: *words = 3; return WAIT;
+    case 0x7f05: *words = 2; return STOP;
+    case 0x7f06: *words = 2; return CLEAR;
+    }
+    return -1;
+}
+
+/* Codes 1 to 10. *span is how far the command reaches: all the bytes where the list ends. */
+static struct told read_command(const uint8_t *s, size_t size, struct command *c, size_t *span)
+{
+    *span = size;
+    if (size < 8) return told(1, 0);
+    unsigned length = get16(s + 2) & 0x7fff;
+    if (length < 2 || length > 32) return told(2, 0);
+    if (4 * length > size) return told(3, 0);
+    *span = 4 * length;
+    uint32_t sum = 0;
+    for (unsigned i = 0; i < length; i++) sum ^= get32(s + 4 * i);
+    if (sum != 0) return told(4, 0);
+    unsigned words;
+    int kind = kind_of(get16(s), &words);
+    if (kind < 0) return told(5, 0);
+    if (length != words) return told(6, 0);
+    c->flag = (s[2] & 0x80) != 0;
+    c->kind = (uint8_t)kind;
+    switch (kind) {
+    case IMG_PWR: case TRK_ALG: case TRK_LOOP: case FLUSH_AUTO: case OPEN: case RUN:
+        if (s[5] != 0 || s[6] != 0 || s[7] != 0) return told(7, 0);
+        c->mode = s[4];
+        break;
+    case WAIT:
+        if (s[6] != 0 || s[7] != 0) return told(7, 0);
+        c->seconds = get16(s + 4);
+        break;
+    case IMG_REGION: case IMG_TRACK: case IMG_IMAGE:
+        c->first = get16(s + 4);
+        c->second = get16(s + 6);
+        break;
+    case TRK_GOAL:
+        c->x = single(get32(s + 4));
+        c->y = single(get32(s + 8));
+        break;
+    }
+    return judge(c);
+}
+
+static uint16_t opcode_of(uint8_t kind)
+{
+    static const uint16_t opcodes[] = {
+        0x0114, 0x0117, 0x0118, 0x0148, 0x014b, 0x0150, 0x0153, 0x015a, 0x015c, 0x7f01, 0x7f02, 0x7f03, 0x7f04, 0x7f05, 0x7f06
+    };
+    return opcodes[kind];
+}
+
+/* Codes 8 to 10, then 24. */
+static struct told write_command(const struct command *c, uint8_t *room, size_t fits, size_t *size)
+{
+    *size = 0;
+    struct told t = judge(c);
+    if (t.code != 0) return t;
+    uint32_t words[4];
+    unsigned n = 1;
+    switch (c->kind) {
+    case IMG_PWR: case TRK_ALG: case TRK_LOOP: case FLUSH_AUTO: case OPEN: case RUN:
+        words[n++] = (uint32_t)c->mode << 24;
+        break;
+    case WAIT:
+        words[n++] = (uint32_t)c->seconds << 16;
+        break;
+    case IMG_REGION: case IMG_TRACK: case IMG_IMAGE:
+        words[n++] = (uint32_t)c->first << 16 | c->second;
+        break;
+    case TRK_GOAL:
+        words[n++] = bits(c->x);
+        words[n++] = bits(c->y);
+        break;
+    }
+    if (fits < 4 * (n + 1)) return told(24, 0);
+    words[0] = (uint32_t)opcode_of(c->kind) << 16 | (c->flag ? 0x8000u : 0) | (n + 1);
+    uint32_t sum = 0;
+    for (unsigned i = 0; i < n; i++) {
+        put32(room + 4 * i, words[i]);
+        sum ^= words[i];
+    }
+    put32(room + 4 * n, sum);
+    *size = 4 * (n + 1);
+    return told(0, 0);
+}
+
+static bool macro_or_none(uint8_t m)
+{
+    return m < MACROS || m == NONE;
+}
+
+static bool frame_obeys(const struct frame *f)
+{
+    if (f->image_interval < 1 || f->track_interval < 1) return false;
+    if (f->x > 1023 || f->y > 1023) return false;
+    if (!goal_allowed(f->xgoal) || !goal_allowed(f->ygoal)) return false;
+    if (f->algorithm > 2) return false;
+    if (!macro_or_none(f->running) || !macro_or_none(f->opened)) return false;
+    if (f->left > LONGEST || (f->left == 0) != (f->running == NONE)) return false;
+    if (f->running != NONE && !(f->closed >> f->running & 1)) return false;
+    if (f->opened != NONE && (f->closed >> f->opened & 1)) return false;
+    return true;
+}
+
+/* 22, then 23. */
+static uint8_t read_frame(const uint8_t *s, size_t size, struct frame *f)
+{
+    if (size != 32) return 22;
+    f->image_time = get16(s);
+    f->image_interval = get16(s + 2);
+    f->track_time = get16(s + 4);
+    f->track_interval = get16(s + 6);
+    f->images = get16(s + 8);
+    f->tracks = get16(s + 10);
+    f->x = get16(s + 12);
+    f->y = get16(s + 14);
+    f->xgoal = get32(s + 16);
+    f->ygoal = get32(s + 20);
+    if ((s[24] & 0xc8) != 0) return 23;
+    f->power = s[24] & 1;
+    f->automatic = s[24] >> 1 & 1;
+    f->loop = s[24] >> 2 & 1;
+    f->algorithm = s[24] >> 4 & 3;
+    f->flushes = s[25];
+    f->running = s[26];
+    f->opened = s[27];
+    f->left = get16(s + 28);
+    f->closed = s[30];
+    if (s[31] != __builtin_popcount(s[30])) return 23;
+    return frame_obeys(f) ? 0 : 23;
+}
+
+/* 23, then 24. */
+static uint8_t write_frame(const struct frame *f, uint8_t *room, size_t fits)
+{
+    if (!frame_obeys(f)) return 23;
+    if (fits < 32) return 24;
+    put16(room, f->image_time);
+    put16(room + 2, f->image_interval);
+    put16(room + 4, f->track_time);
+    put16(room + 6, f->track_interval);
+    put16(room + 8, f->images);
+    put16(room + 10, f->tracks);
+    put16(room + 12, f->x);
+    put16(room + 14, f->y);
+    put32(room + 16, f->xgoal);
+    put32(room + 20, f->ygoal);
+    room[24] = (uint8_t)(f->power | f->automatic << 1 | f->loop << 2 | f->algorithm << 4);
+    room[25] = f->flushes;
+    room[26] = f->running;
+    room[27] = f->opened;
+    put16(room + 28, f->left);
+    room[30] = f->closed;
+    room[31] = (uint8_t)__builtin_popcount(f->closed);
+    return 0;
+}
+
+static void fresh(struct bench *b)
+{
+    memset(b, 0, sizeof *b);
+    b->image.interval = 1;
+    b->track.interval = 1;
+    b->running = NONE;
+    b->opened = NONE;
+}
+
+static void status(const struct bench *b, struct frame *f)
+{
+    f->image_time = b->image.time;
+    f->image_interval = b->image.interval;
+    f->track_time = b->track.time;
+    f->track_interval = b->track.interval;
+    f->images = b->image.count;
+    f->tracks = b->track.count;
+    f->x = b->x;
+    f->y = b->y;
+    f->xgoal = bits(b->xgoal);
+    f->ygoal = bits(b->ygoal);
+    f->power = b->power;
+    f->automatic = b->automatic;
+    f->loop = b->loop;
+    f->algorithm = b->algorithm;
+    f->flushes = b->flushes;
+    f->running = b->running;
+    f->opened = b->opened;
+    f->left = b->left;
+    f->closed = 0;
+    for (int m = 0; m < MACROS; m++) f->closed |= (uint8_t)(b->closed[m] << m);
+}
+
+/* The seconds of an entry, by the lengths of the smaller macros. */
+static unsigned span(const struct bench *b, const struct command *c, unsigned m, const unsigned *lengths)
+{
+    if (c->kind == WAIT) return c->seconds;
+    if (c->kind == RUN) return c->mode < m && b->closed[c->mode] ? lengths[c->mode] : 0;
+    return 1;
+}
+
+/* The lengths of the macros below n; 601 stands for anything longer than 600. */
+static void measure(const struct bench *b, unsigned n, unsigned *lengths)
+{
+    for (unsigned m = 0; m < n; m++) {
+        unsigned sum = 0;
+        unsigned count = b->counts[m] < ENTRIES ? b->counts[m] : ENTRIES;
+        for (unsigned i = 0; i < count; i++) sum += span(b, &b->entries[m][i], m, lengths);
+        lengths[m] = sum > LONGEST ? LONGEST + 1 : sum;
+    }
+}
+
+/* The entry that second k of macro m hands over, or NULL. */
+static const struct command *entry_at(const struct bench *b, unsigned m, unsigned k, const unsigned *lengths)
+{
+    for (unsigned i = 0; i < b->counts[m]; i++) {
+        const struct command *c = &b->entries[m][i];
+        unsigned seconds = span(b, c, m, lengths);
+        if (k < seconds) {
+            if (c->kind == WAIT) return NULL;
+            if (c->kind == RUN) return entry_at(b, c->mode, k, lengths);
+            return c;
+        }
+        k -= seconds;
+    }
+    return NULL;
+}
+
+static bool paced(const struct series *s)
+{
+    return s->time == 0 || (s->next >= 1 && s->next <= s->interval);
+}
+
+/* 27: may this state be? */
+static bool sound(const struct bench *b)
+{
+    struct frame f;
+    status(b, &f);
+    if (!frame_obeys(&f) || !paced(&b->image) || !paced(&b->track)) return false;
+    unsigned lengths[MACROS];
+    measure(b, MACROS, lengths);
+    for (unsigned m = 0; m < MACROS; m++) {
+        if (!b->closed[m] && b->opened != m) continue;
+        if (b->counts[m] > ENTRIES) return false;
+        if (b->closed[m] && (b->counts[m] < 1 || lengths[m] < 1 || lengths[m] > LONGEST)) return false;
+        for (unsigned i = 0; i < b->counts[m]; i++) {
+            const struct command *c = &b->entries[m][i];
+            if (!c->flag || judge(c).code != 0) return false;
+            if (c->kind == RUN && (c->mode >= m || !b->closed[c->mode])) return false;
+        }
+    }
+    return b->running == NONE || (b->left >= 1 && b->left <= lengths[b->running]);
+}
+
+static void start_series(struct series *s, uint16_t time, uint16_t interval)
+{
+    s->time = time;
+    s->interval = interval;
+    s->next = 1;
+}
+
+/* A command that was accepted and is executed. */
+static void execute(struct bench *b, const struct command *c)
+{
+    unsigned lengths[MACROS];
+    switch (c->kind) {
+    case IMG_PWR: b->power = c->mode == 1; break;
+    case IMG_REGION: b->x = c->first; b->y = c->second; break;
+    case IMG_TRACK: start_series(&b->track, c->first, c->second); break;
+    case TRK_ALG: b->algorithm = c->mode; break;
+    case TRK_LOOP: b->loop = c->mode == 1; break;
+    case IMG_IMAGE: start_series(&b->image, c->first, c->second); break;
+    case TRK_GOAL: b->xgoal = c->x; b->ygoal = c->y; break;
+    case TLM_FLUSH: b->flushes++; break;
+    case FLUSH_AUTO: b->automatic = c->mode == 1; break;
+    case OPEN: b->opened = c->mode; b->counts[c->mode] = 0; break;
+    case CLOSE: b->closed[b->opened] = true; b->opened = NONE; break;
+    case RUN:
+        measure(b, c->mode + 1u, lengths);
+        b->running = c->mode;
+        b->left = (uint16_t)lengths[c->mode];
+        break;
+    case STOP: b->running = NONE; b->left = 0; break;
+    case CLEAR:
+        memset(b->counts, 0, sizeof b->counts);
+        memset(b->closed, 0, sizeof b->closed);
+        b->opened = NONE;
+        break;
+    }
+}
+
+/* Codes 11 to 19. */
+static uint8_t denied(const struct bench *b, const struct command *c)
+{
+    if ((c->flag || c->kind == CLOSE) && b->opened == NONE) return 11;
+    if (c->kind == OPEN && b->opened != NONE) return 12;
+    if (c->kind == OPEN && b->closed[c->mode]) return 13;
+    if (c->kind == CLOSE) {
+        unsigned lengths[MACROS];
+        if (b->counts[b->opened] == 0) return 14;
+        measure(b, b->opened + 1u, lengths);
+        if (lengths[b->opened] > LONGEST) return 15;
+    }
+    if (c->flag && b->counts[b->opened] >= ENTRIES) return 16;
+    if (c->flag && c->kind == RUN && c->mode >= b->opened) return 17;
+    if (c->kind == RUN && !b->closed[c->mode]) return 18;
+    if (((c->kind == RUN && !c->flag) || c->kind == CLEAR) && b->running != NONE) return 19;
+    return 0;
+}
+
+/* The command at the front of these bytes, on a sound bench. */
+static struct told take(struct bench *b, const uint8_t *s, size_t size, size_t *reach)
+{
+    struct command c;
+    struct told t = read_command(s, size, &c, reach);
+    if (t.code != 0) return t;
+    uint8_t code = denied(b, &c);
+    if (code != 0) return told(code, 0);
+    if (c.flag) b->entries[b->opened][b->counts[b->opened]++] = c;
+    else execute(b, &c);
+    return told(0, 0);
+}
+
+static uint32_t run_list(struct bench *b, const uint8_t *list, size_t size, uint8_t sender, uint8_t *room)
+{
+    uint32_t count = 0;
+    size_t reach;
+    for (size_t at = 0; at < size; at += reach) {
+        struct told t = take(b, list + at, size - at, &reach);
+        uint8_t *record = room + 8 * count;
+        record[0] = sender;
+        record[1] = t.code;
+        record[2] = t.par;
+        record[3] = 0;
+        put32(record + 4, ++count);
+    }
+    return count;
+}
+
+/* 20, 21, 27, then the two lists. */
+static uint8_t run(struct bench *b, const uint8_t *kit, size_t kits, const uint8_t *pupil, size_t pupils, uint8_t *room, size_t fits,
+                   uint32_t *records)
+{
+    records[0] = records[1] = 0;
+    if (kits > LIST || pupils > LIST) return 20;
+    if (fits < ROOM) return 21;
+    if (!sound(b)) return 27;
+    records[0] = run_list(b, kit, kits, 1, room);
+    records[1] = run_list(b, pupil, pupils, 2, room + 8 * records[0]);
+    return 0;
+}
+
+static void series_second(struct series *s)
+{
+    if (s->time == 0) return;
+    s->next--;
+    if (s->next == 0) {
+        s->count++;
+        s->next = s->interval;
+    }
+    if (s->time != FOR_EVER) s->time--;
+}
+
+/* 27, else a second passes; *handed is what the running macro handed over, or NULL. */
+static uint8_t second(struct bench *b, const struct command **handed)
+{
+    *handed = NULL;
+    if (!sound(b)) return 27;
+    series_second(&b->image);
+    series_second(&b->track);
+    if (b->running == NONE) return 0;
+    unsigned lengths[MACROS];
+    measure(b, b->running + 1u, lengths);
+    const struct command *c = entry_at(b, b->running, lengths[b->running] - b->left, lengths);
+    b->left--;
+    if (b->left == 0) b->running = NONE;
+    if (c != NULL) execute(b, c);
+    *handed = c;
+    return 0;
+}
+
+/* The measured jobs, as in crates/timing. */
+
+static uint64_t mixed(uint64_t sum, uint64_t value)
+{
+    return (sum ^ sum / 8) + value;
+}
+
+static uint64_t with_command(uint64_t sum, const struct command *c)
+{
+    uint32_t first = 0, second = 0;
+    switch (c->kind) {
+    case IMG_PWR: case TRK_ALG: case TRK_LOOP: case FLUSH_AUTO: case OPEN: case RUN:
+        first = c->mode;
+        break;
+    case WAIT:
+        first = c->seconds;
+        break;
+    case IMG_REGION: case IMG_TRACK: case IMG_IMAGE:
+        first = c->first;
+        second = c->second;
+        break;
+    case TRK_GOAL:
+        first = bits(c->x);
+        second = bits(c->y);
+        break;
+    }
+    sum = mixed(mixed(sum, first), second);
+    return c->flag ? mixed(sum, 1) : sum;
+}
+
+static uint64_t with_told(uint64_t sum, struct told t)
+{
+    return mixed(mixed(sum, t.code), t.par);
+}
+
+static uint64_t with_frame(uint64_t sum, const struct frame *f)
+{
+    sum = mixed(mixed(sum, f->image_time), f->track_time);
+    sum = mixed(mixed(sum, f->image_interval), f->track_interval);
+    sum = mixed(mixed(sum, f->images), f->tracks);
+    sum = mixed(mixed(sum, f->x), f->y);
+    sum = mixed(mixed(sum, f->xgoal), f->ygoal);
+    sum = mixed(mixed(mixed(sum, f->power), f->automatic), f->loop);
+    sum = mixed(mixed(sum, f->algorithm), f->flushes);
+    sum = mixed(mixed(sum, f->running), f->opened);
+    return mixed(mixed(sum, f->left), f->closed);
+}
+
+static uint64_t with_status(uint64_t sum, const struct bench *b)
+{
+    struct frame f;
+    if (!sound(b)) return mixed(sum, 27);
+    status(b, &f);
+    return with_frame(sum, &f);
+}
+
+uint64_t plain_read(const uint8_t *bytes, size_t size, uint32_t times)
+{
+    uint64_t sum = 0;
+    if (size < 256) return 0;
+    for (uint32_t i = 0; i < times; i++) {
+        struct command c;
+        size_t reach, at = i % 16 * 16;
+        struct told t = read_command(bytes + at, size - at, &c, &reach);
+        sum = t.code == 0 ? with_command(sum, &c) : with_told(sum, t);
+    }
+    return sum;
+}
+
+uint64_t plain_write(const uint8_t *bytes, size_t size, uint8_t *room, size_t fits, uint32_t times)
+{
+    struct command commands[16];
+    size_t reach;
+    uint64_t sum = 0;
+    if (size < 256 || fits < 256) return 0;
+    for (int i = 0; i < 16; i++) {
+        if (read_command(bytes + i * 16, size - i * 16, &commands[i], &reach).code != 0) {
+            commands[i].flag = false;
+            commands[i].kind = TLM_FLUSH;
+        }
+    }
+    for (uint32_t i = 0; i < times; i++) {
+        size_t k = i % 16, n;
+        struct told t = write_command(&commands[k], room + k * 16, fits - k * 16, &n);
+        sum = t.code == 0 ? mixed(sum, n) : with_told(sum, t);
+    }
+    return sum;
+}
+
+uint64_t plain_frame_read(const uint8_t *bytes, size_t size, uint32_t times)
+{
+    uint64_t sum = 0;
+    if (size < 256) return 0;
+    for (uint32_t i = 0; i < times; i++) {
+        struct frame f;
+        uint8_t code = read_frame(bytes + i % 8 * 32, 32, &f);
+        sum = code == 0 ? with_frame(sum, &f) : mixed(sum, code);
+    }
+    return sum;
+}
+
+uint64_t plain_frame_write(const uint8_t *bytes, size_t size, uint8_t *room, size_t fits, uint32_t times)
+{
+    struct frame frames[8];
+    uint64_t sum = 0;
+    if (size < 256 || fits < 256) return 0;
+    for (int i = 0; i < 8; i++) {
+        if (read_frame(bytes + i * 32, 32, &frames[i]) != 0) {
+            struct bench idle;
+            fresh(&idle);
+            status(&idle, &frames[i]);
+        }
+    }
+    for (uint32_t i = 0; i < times; i++) {
+        size_t k = i % 8;
+        sum = mixed(sum, write_frame(&frames[k], room + k * 32, fits - k * 32));
+    }
+    return sum;
+}
+
+uint64_t plain_run(const uint8_t *kit, size_t kits, const uint8_t *pupil, size_t pupils, uint8_t *room, size_t fits, uint32_t times)
+{
+    struct bench b;
+    uint64_t sum = 0;
+    fresh(&b);
+    for (uint32_t i = 0; i < times; i++) {
+        uint32_t records[2];
+        fresh(&b);
+        run(&b, kit, kits, pupil, pupils, room, fits, records);
+        sum = mixed(mixed(sum, records[0]), records[1]);
+    }
+    return with_status(sum, &b);
+}
+
+uint64_t plain_seconds(const uint8_t *list, size_t size, uint8_t *room, size_t fits, uint32_t seconds, uint32_t times)
+{
+    struct bench start, b;
+    uint32_t records[2];
+    uint64_t sum = 0;
+    fresh(&start);
+    run(&start, list, 0, list, size, room, fits, records);
+    b = start;
+    for (uint32_t i = 0; i < times; i++) {
+        b = start;
+        for (uint32_t s = 0; s < seconds; s++) {
+            const struct command *handed;
+            second(&b, &handed);
+            sum = handed == NULL ? mixed(sum, 0) : with_command(sum, handed);
+        }
+    }
+    return with_status(sum, &b);
+}
