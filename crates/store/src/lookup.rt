@@ -116,7 +116,7 @@ fn length_by(store: Store, m: u8, table: [u16; 8]) -> u16
 }
 
 // The lengths of the macros below n, each by those below it.
-pub fn lengths_below(store: Store, n: u8) -> [u16; 8]
+pub(crate) fn lengths_below(store: Store, n: u8) -> [u16; 8]
     requires { ⌜ n ≤ 8 ⌝ }
     ensures { λ r. ⌜ r ≡ lengthsTo store n ⌝ }
 {

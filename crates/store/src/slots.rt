@@ -62,7 +62,7 @@ pub fn marked(closed: [bool; 8], m: u8) -> [bool; 8]
 }
 
 // The store with one entry more in macro m.
-pub fn keep(store: Store, m: u8, command: Command) -> Store
+pub(crate) fn keep(store: Store, m: u8, command: Command) -> Store
     requires { ⌜ (m < 8) × (countOf store m < 24) ⌝ }
     ensures { λ r. ⌜ r ≡ kept store m command ⌝ }
 {
@@ -80,7 +80,7 @@ pub fn keep(store: Store, m: u8, command: Command) -> Store
 }
 
 // The slot of entry i of macro m. A loop reads its slots itself: handing the store to a reader would copy all of it for each entry.
-pub fn slot_of(m: usize, i: usize) -> usize
+pub(crate) fn slot_of(m: usize, i: usize) -> usize
     requires { ⌜ (m < 8) × (i < 24) ⌝ }
     ensures { λ r. ⌜ r ≡ m * 24 + i ⌝ }
 {
