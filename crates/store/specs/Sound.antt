@@ -1,15 +1,15 @@
 -- The store's part of a sound state, clause by clause.
 use Prim.Native.Nat.{ℕ, zero, suc}
 use mathlib.Core.List.{List, [], _∷_}
-use mathlib.Core.Bool.{Bool, true, cond, not, _&&_, _||_}
+use mathlib.Core.Bool.{Bool, true, cond, _&&_, _||_}
 use lib.ListN.{length}
-use lib.Dec.{leb, ltb, eqb}
+use lib.Dec.{leb, eqb}
 use Rattle.wire.specs.declared.kinds.Command.{Command}
-use Rattle.wire.specs.Judge.{judgeCode}
 use Rattle.store.specs.declared.Store.{Store}
-use Rattle.store.specs.Roles.{roleOf, isRun, numberOf}
+use Rattle.store.specs.Roles.{roleOf}
 use Rattle.store.specs.Slots.{countOf, isClosed, idle, entriesOf}
 use Rattle.store.specs.WrittenOut.{writtenOut}
+use Rattle.store.specs.Fits.{runFits, entryFits}
 
 -- A test of every number below n, and of every element.
 unfoldable pub allBelow : ℕ → (ℕ → Bool) → Bool
@@ -22,11 +22,10 @@ allOf test (c ∷ cs) = test c && allOf test cs
 
 -- "each entry is a flag-1 command that passes 7 to 10 and, for a RUN, 17 and 18 as in its own macro"
 abbrev pub runHolds : Store → ℕ → Command → Bool
-runHolds s m e =
-    not (isRun (roleOf (e .kind))) || (ltb (numberOf (roleOf (e .kind))) m && isClosed s (numberOf (roleOf (e .kind))))
+runHolds s m e = runFits (s .closed) m (roleOf (e .kind))
 
 abbrev pub entryHolds : Store → ℕ → Command → Bool
-entryHolds s m e = e .flag && eqb (judgeCode e) 0 && runHolds s m e
+entryHolds s m e = entryFits (s .closed) m e
 
 abbrev pub entriesHold : Store → ℕ → Bool
 entriesHold s m = allOf (entryHolds s m) (entriesOf s m)
