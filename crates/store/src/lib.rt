@@ -24,12 +24,11 @@ pub use roles::role_of;
 use wire::Command;
 use wire::Kind;
 
-// How many macros there are, how many entries each can hold, and the slots of them all.
+// How many macros there are, and how many entries each can hold.
 pub const MACROS: usize = 8;
 
 pub const ENTRIES: usize = 24;
 
-pub const SLOTS: usize = 192;
 // The number that stands for no macro.
 pub const NONE: u8 = 255;
 // The longest a macro runs, in seconds, and the length that every longer one is told as.
