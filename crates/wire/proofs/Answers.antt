@@ -1,5 +1,5 @@
 -- From one step of the reader to the answer of the whole: a refusal is an answer whose code is not 0, and each row that passes leaves the rows behind it.
-use Prim.Native.Nat.{ℕ, _*_, _-_, _≤_}
+use Prim.Native.Nat.{ℕ, _*_, _-_, _^_, _≤_, _<_}
 use mathlib.Core.Path.{_≡_, refl, sym, ap, _∙_}
 use mathlib.Core.List.{List, [], _∷_}
 use mathlib.Core.Bool.{Bool, true, false, _||_}
@@ -21,10 +21,11 @@ use Rattle.wire.specs.declared.decoding.Reading.{Reading}
 use Rattle.wire.specs.declared.decoding.Fields.{Fields}
 use Rattle.wire.specs.declared.decoding.Reach.{Reach}
 use Rattle.wire.proofs.Order.{due-none}
+use Rattle.wire.proofs.Layouts.{judged-fields}
 use Rattle.wire.specs.Codes.{Check, _when_, firstOf}
 use Rattle.wire.specs.Table.{rowOf, ruleOf}
 use Rattle.wire.specs.Kind.{kindOf}
-use Rattle.wire.specs.Judge.{toldWith, toldOf, toldJudged, judgeCode, judged, parFor}
+use Rattle.wire.specs.Judge.{toldWith, toldOf, toldJudged, judgedBy, judgeCode, judged, parFor}
 use Rattle.wire.specs.Read.{Answer, answerOf, answerFor, fieldsOf, commandAs, decodeChecks, decodedAs, decoded, formIn, opcodeOf, lengthOf, sumOf}
 use Rattle.wire.specs.Read.{thirdWord, readWhole, commandIn, Reached, reachOf, reachCode, reachAt, reachChecks, wholeChecks, readCode, readOf, spanOf}
 
@@ -55,7 +56,7 @@ refused r code c e =
 pub allowed : (code : ℕ) (c : Command) → toldWith 0 0 ≡ toldWith code (parFor code c) → record { told = toldWith 0 0; taken = c ∷ [] } ≡ answerFor code c
 allowed code c e = rw (← ap (λ (t : Told). t .code) e)
 
--- Rows 7 to 10, from what the code holds: the row of the form, the fields by its layout, the kind made of them.
+-- Rows 7 to 10, from what the code holds: the row of the form, the fields by its layout, the judgement on them and the kind made of them.
 module _ (form : Form) (flag : Bool) (one two : ℕ) (row : Row) (fields : Fields)
     (is-row : row ≡ rowOf form) (are-fields : fields ≡ fieldsOf (row .layout) one two) where
   same-fields : fields ≡ fieldsOf (rowOf form .layout) one two
@@ -71,21 +72,21 @@ module _ (form : Form) (flag : Bool) (one two : ℕ) (row : Row) (fields : Field
       let none : eqb (fieldsOf (rowOf form .layout) one two .pad) 0 ≡ true = rw (← same-fields) (eq-eqb (fields .pad) 0 h) in
       simp none
 
-  module _ (kind : Kind) (made : kind ≡ kindOf form (fields .first) (fields .second)) (no-pad : fields .pad ≡ 0) where
-    same-command : record { flag = flag; kind = kind } ≡ commandAs form flag one two
-    same-command = rw (made, same-fields)
+  module _ (one-fits : one < 2 ^ 32) (two-fits : two < 2 ^ 32) (no-pad : fields .pad ≡ 0) where
+    same-judged : judgedBy row flag (fields .first) (fields .second) ≡ judged (commandAs form flag one two)
+    same-judged = rw (is-row, same-fields) (judged-fields form flag one two one-fits two-fits)
 
-    pub then-allowed : toldJudged Judged.Allowed ≡ judged (record { flag = flag; kind = kind })
+    pub then-allowed : (kind : Kind) → kind ≡ kindOf form (fields .first) (fields .second)
+        → toldJudged Judged.Allowed ≡ judgedBy row flag (fields .first) (fields .second)
         → answerOf (Reading.Taken (record { flag = flag; kind = kind })) ≡ decodedAs form flag one two
-    then-allowed e =
-        allowed (judgeCode (record { flag = flag; kind = kind })) (record { flag = flag; kind = kind }) e
-        ∙ ap (λ (c : Command). answerFor (judgeCode c) c) same-command ∙ sym (pad-passed no-pad)
+    then-allowed kind made e =
+        let same : record { flag = flag; kind = kind } ≡ commandAs form flag one two = rw (made, same-fields) in
+        rw same (allowed (judgeCode (commandAs form flag one two)) (commandAs form flag one two) (e ∙ same-judged)) ∙ sym (pad-passed no-pad)
 
-    pub then-refused : (r : Refusal) → toldJudged (Judged.Refused r) ≡ judged (record { flag = flag; kind = kind })
+    pub then-refused : (r : Refusal) → toldJudged (Judged.Refused r) ≡ judgedBy row flag (fields .first) (fields .second)
         → answerOf (Reading.Refused r) ≡ decodedAs form flag one two
     then-refused r e =
-        refused r (judgeCode (record { flag = flag; kind = kind })) (record { flag = flag; kind = kind }) e
-        ∙ ap (λ (c : Command). answerFor (judgeCode c) c) same-command ∙ sym (pad-passed no-pad)
+        refused r (judgeCode (commandAs form flag one two)) (commandAs form flag one two) (e ∙ same-judged) ∙ sym (pad-passed no-pad)
 
 -- Rows 5 and 6, from what was found for the opcode.
 module _ (opcode : ℕ) (flag : Bool) (words one two : ℕ) where

@@ -6,6 +6,7 @@ use lib.Dec.{leb, eqb}
 use Rattle.wire.specs.declared.table.Form.{Form}
 use Rattle.wire.specs.declared.table.Layout.{Layout}
 use Rattle.wire.specs.declared.table.FlagRule.{FlagRule}
+use Rattle.wire.specs.declared.table.Row.{Row}
 use Rattle.wire.specs.declared.kinds.Command.{Command}
 use Rattle.wire.specs.declared.judging.Refusal.{Refusal}
 use Rattle.wire.specs.declared.judging.Told.{Told}
@@ -47,12 +48,16 @@ minusZero Layout.Singles value = eqb value 0x80000000
 abbrev pub inLimits : Layout → ℕ → ℕ → ℕ → Bool
 inLimits layout low high value = minusZero layout value || (leb low value && leb value high)
 
--- The first argument out of range, 1 or 2; 0 where there is none.
-abbrev pub badOf : Form → ℕ → ℕ → ℕ
-badOf form first second =
-    cond (inLimits (rowOf form .layout) (rowOf form .low1) (rowOf form .high1) first)
-    (cond (inLimits (rowOf form .layout) (rowOf form .low2) (rowOf form .high2) second) 0 2)
+-- The first argument out of range by a row of the table, 1 or 2; 0 where there is none.
+abbrev pub badBy : Row → ℕ → ℕ → ℕ
+badBy row first second =
+    cond (inLimits (row .layout) (row .low1) (row .high1) first)
+    (cond (inLimits (row .layout) (row .low2) (row .high2) second) 0 2)
     1
+
+-- The same by the row of a form.
+abbrev pub badOf : Form → ℕ → ℕ → ℕ
+badOf form first second = badBy (rowOf form) first second
 
 abbrev pub isNever : FlagRule → Bool
 isNever FlagRule.Either = false
@@ -71,23 +76,36 @@ flagChecks rule flag = 9 when (isNever rule && flag) ∷ 10 when (isAlways rule 
 abbrev pub flagRefused : FlagRule → Bool → Told
 flagRefused rule flag = toldWith (firstOf (flagChecks rule flag)) 0
 
--- The first bad parameter of a decoded command, and its flag's rule.
+-- Rows 8 to 10, on a flag and two numbers, by a row of the table.
+abbrev pub rowChecks : Row → Bool → ℕ → ℕ → List Check
+rowChecks row flag first second = 8 when not (eqb (badBy row first second) 0) ∷ flagChecks (row .flags) flag
+
+-- The parameter byte of a code: 0 unless the code is 8, which names the first bad parameter.
+abbrev pub parWith : ℕ → ℕ → ℕ
+parWith code bad = cond (eqb code 8) bad 0
+
+-- The judgement on a flag and two numbers, by a row of the table.
+abbrev pub judgedBy : Row → Bool → ℕ → ℕ → Told
+judgedBy row flag first second =
+    let code = firstOf (rowChecks row flag first second) in
+    toldWith code (parWith code (badBy row first second))
+
+-- The first bad parameter of a decoded command.
 abbrev pub badIn : Command → ℕ
 badIn c = badOf (partsOf (c .kind) .form) (partsOf (c .kind) .first) (partsOf (c .kind) .second)
 
-abbrev pub flagRuleOf : Command → FlagRule
-flagRuleOf c = rowOf (partsOf (c .kind) .form) .flags
-
 -- Rows 8 to 10, on a decoded command.
 abbrev pub argChecks : Command → List Check
-argChecks c = 8 when not (eqb (badIn c) 0) ∷ flagChecks (flagRuleOf c) (c .flag)
+argChecks c =
+    let parts = partsOf (c .kind) in
+    rowChecks (rowOf (parts .form)) (c .flag) (parts .first) (parts .second)
 
 unfoldable pub judgeCode : Command → ℕ
 judgeCode c = firstOf (argChecks c)
 
--- The parameter byte of a code: 0 unless the code is 8.
+-- The parameter byte of a code, for this command.
 abbrev pub parFor : ℕ → Command → ℕ
-parFor code c = cond (eqb code 8) (badIn c) 0
+parFor code c = parWith code (badIn c)
 
 -- The judgement on a decoded command.
 abbrev pub judged : Command → Told

@@ -5,7 +5,7 @@ ghost use lib.ListN.{length};
 ghost use Rattle.wire.specs.Read.{fieldsWith, fieldsOf, sumOf, thirdWord, answerOf, decodedAs, decoded, readWhole, readOf, reachOf, reachAt, spanOf};
 use super::judging::Judged;
 use super::judging::Refusal;
-use super::judging::judge;
+use super::judging::judge_by;
 use super::kinds::Command;
 use super::kinds::kind_of;
 use super::table::Form;
@@ -70,10 +70,11 @@ fn decode_as(form: Form, flag: bool, one: u32, two: u32) -> Reading
     if fields.pad != 0 {
         return Reading::Refused(Refusal::PadNotZero);
     }
-    let kind = kind_of(form, fields.first, fields.second);
-    let command = Command { flag, kind };
-    match judge(command) {
-        Judged::Allowed => Reading::Taken(command),
+    match judge_by(row, flag, fields.first, fields.second) {
+        Judged::Allowed => {
+            let kind = kind_of(form, fields.first, fields.second);
+            Reading::Taken(Command { flag, kind })
+        }
         Judged::Refused(refusal) => Reading::Refused(refusal),
     }
 }

@@ -1,12 +1,13 @@
 // What the wire refuses, and the rules on a decoded command: codes 8, 9 and 10, in that order.
 ghost use mathlib.Core.Path.{_≡_};
 ghost use Rattle.wire.specs.Table.{rowOf};
-ghost use Rattle.wire.specs.Judge.{toldWith, toldOf, toldJudged, inLimits, badOf, flagRefused, judged};
+ghost use Rattle.wire.specs.Judge.{toldWith, toldOf, toldJudged, inLimits, badBy, badOf, flagRefused, judgedBy, judged};
 use super::kinds::Command;
 use super::kinds::parts_of;
 use super::table::FlagRule;
 use super::table::Form;
 use super::table::Layout;
+use super::table::Row;
 use super::table::row_of;
 
 // Why a command is refused on the wire. `OutOfRange` names the first bad parameter, 1 or 2.
@@ -77,11 +78,10 @@ fn in_limits(layout: Layout, low: u32, high: u32, value: u32) -> bool
     value <= high
 }
 
-// The first argument out of range, 1 or 2; 0 where both are within the limits of this form.
-pub fn first_bad(form: Form, first: u32, second: u32) -> u8
-    ensures { λ r. ⌜ r ≡ badOf form first second ⌝ }
+// The first argument out of range, 1 or 2; 0 where both are within the limits of this row.
+fn bad_by(row: Row, first: u32, second: u32) -> u8
+    ensures { λ r. ⌜ r ≡ badBy row first second ⌝ }
 {
-    let row = row_of(form);
     let layout = row.layout;
     if !in_limits(layout, row.low1, row.high1, first) {
         return 1;
@@ -90,6 +90,13 @@ pub fn first_bad(form: Form, first: u32, second: u32) -> u8
         return 2;
     }
     0
+}
+
+// The same by the limits of a form.
+pub fn first_bad(form: Form, first: u32, second: u32) -> u8
+    ensures { λ r. ⌜ r ≡ badOf form first second ⌝ }
+{
+    bad_by(row_of(form), first, second)
 }
 
 // The flag against its rule: codes 9 and 10.
@@ -115,18 +122,24 @@ fn judge_flag(rule: FlagRule, flag: bool) -> Judged
     }
 }
 
-// A decoded command: 8, then 9 or 10.
+// A flag and two numbers by a row of the table: 8, then 9 or 10.
+pub fn judge_by(row: Row, flag: bool, first: u32, second: u32) -> Judged
+    ensures { λ r. ⌜ toldJudged r ≡ judgedBy row flag first second ⌝ }
+{
+    let bad = bad_by(row, first, second);
+    if bad != 0 {
+        return Judged::Refused(Refusal::OutOfRange(bad));
+    }
+    let rule = row.flags;
+    judge_flag(rule, flag)
+}
+
+// A decoded command, by the row of its form.
 pub fn judge(command: Command) -> Judged
     ensures { λ r. ⌜ toldJudged r ≡ judged command ⌝ }
 {
     let kind = command.kind;
     let parts = parts_of(kind);
     let form = parts.form;
-    let bad = first_bad(form, parts.first, parts.second);
-    if bad != 0 {
-        return Judged::Refused(Refusal::OutOfRange(bad));
-    }
-    let row = row_of(form);
-    let rule = row.flags;
-    judge_flag(rule, command.flag)
+    judge_by(row_of(form), command.flag, parts.first, parts.second)
 }

@@ -32,8 +32,8 @@ pub fn half_at(s: &[u8], at: usize) -> u16
     }
 }
 
-// The 32-bit number that begins at a place.
-pub fn word_at(s: &[u8], at: usize) -> u32
+// The 32-bit number that begins at a place and that the end may cut off.
+fn cut_word(s: &[u8], at: usize) -> u32
     ensures { λ r. ⌜ r ≡ wordAt (now (s .entry)) at ⌝ }
 {
     if at < s.len() {
@@ -41,6 +41,19 @@ pub fn word_at(s: &[u8], at: usize) -> u32
     } else {
         0
     }
+}
+
+// The 32-bit number that begins at a place. One that lies whole in the slice, as nearly all do, takes no test for each byte.
+pub fn word_at(s: &[u8], at: usize) -> u32
+    ensures { λ r. ⌜ r ≡ wordAt (now (s .entry)) at ⌝ }
+{
+    if s.len() < WORD {
+        return cut_word(s, at);
+    }
+    if s.len() - WORD < at {
+        return cut_word(s, at);
+    }
+    (joined(s[at], s[at + 1]) as u32) * 65536 + (joined(s[at + 2], s[at + 3]) as u32)
 }
 
 // Writes a 32-bit number at the front of a room.

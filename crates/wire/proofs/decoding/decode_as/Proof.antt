@@ -1,5 +1,6 @@
--- `decode_as` meets its contract: rows 7 to 10 by `Answers`, from the row, the fields, the kind and the judgement that the code holds.
+-- `decode_as` meets its contract: rows 7 to 10 by `Answers`, from the row, the fields, the judgement and the kind that the code holds.
 use mathlib.Core.Path.{sym, ap, _∙_}
+use native.Mathlib.Omega.{arith}
 use borrow.Author.Needs.{needs}
 use Rattle.wire.specs.Judge.{toldJudged}
 use Rattle.wire.proofs.Answers.{pad-refused, then-allowed, then-refused}
@@ -19,41 +20,41 @@ returns c =
     let fields = c .before .before .fields-of in
     pad-refused (a .form) (a .flag) (a .one) (a .two) (row .result) (fields .result) (row .ensures) (fields .ensures) (c .if1 .taken)
 
-kind-of-requires : tie.Need-kind-of-requires
-kind-of-requires c κs = search needs
-
-judge-requires : tie.Need-judge-requires
-judge-requires c κs = search needs
+judge-by-requires : tie.Need-judge-by-requires
+judge-by-requires c κs = search needs
 
 enum-told : tie.Need-enum-told
 enum-told c = search needs
+
+kind-of-requires : tie.Need-kind-of-requires
+kind-of-requires c κs = search needs
 
 enum-known-refusal : tie.Need-enum-known-refusal
 enum-known-refusal c = search needs
 
 returns-2 : tie.Need-returns-2
 returns-2 c =
-    let at = c .before .before .before .before .before in
-    let a = at .before .before .before .args in
+    let judge = c .before .before .before in
+    let at = judge .before .before in
+    let start = at .before .before .before in
+    let a = start .args in
     let row = at .before .before .row-of in
     let fields = at .before .fields-of in
-    let kind = c .before .before .before .kind-of in
-    let judge = c .before .before .judge in
     then-allowed (a .form) (a .flag) (a .one) (a .two) (row .result) (fields .result) (row .ensures) (fields .ensures)
-    (kind .result) (kind .ensures) (c .before .before .before .before .if1 .left)
-    (ap toldJudged (sym (c .enum-told .given .1)) ∙ judge .ensures)
+    (omega (arith, start .fits .one)) (omega (arith, start .fits .two)) (judge .before .if1 .left) (c .kind-of .result) (c .kind-of .ensures)
+    (ap toldJudged (sym (c .before .enum-told .given .1)) ∙ judge .judge-by .ensures)
 
 returns-3 : tie.Need-returns-3
 returns-3 c =
-    let at = c .before .before .before .before .before .before in
-    let a = at .before .before .before .args in
+    let judge = c .before .before .before in
+    let at = judge .before .before in
+    let start = at .before .before .before in
+    let a = start .args in
     let row = at .before .before .row-of in
     let fields = at .before .fields-of in
-    let kind = c .before .before .before .before .kind-of in
-    let judge = c .before .before .before .judge in
     then-refused (a .form) (a .flag) (a .one) (a .two) (row .result) (fields .result) (row .ensures) (fields .ensures)
-    (kind .result) (kind .ensures) (c .before .before .before .before .before .if1 .left) (c .before .refusal .given .0 .0)
-    (ap toldJudged (sym (c .before .refusal .given .1)) ∙ judge .ensures)
+    (omega (arith, start .fits .one)) (omega (arith, start .fits .two)) (judge .before .if1 .left) (c .before .refusal .given .0 .0)
+    (ap toldJudged (sym (c .before .refusal .given .1)) ∙ judge .judge-by .ensures)
 
 pub decode-as-spec : {M : Type 1} → statement M
 decode-as-spec =
@@ -62,9 +63,9 @@ decode-as-spec =
     row-of-requires
     fields-of-requires
     returns
-    kind-of-requires
-    judge-requires
+    judge-by-requires
     enum-told
+    kind-of-requires
     enum-known-refusal
     returns-2
     returns-3)
