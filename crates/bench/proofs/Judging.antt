@@ -1,39 +1,53 @@
 -- From the single tests of a bench to its soundness, and from the steps of a second to the whole.
-use mathlib.Core.Path.{_≡_, ap}
+use mathlib.Core.Path.{_≡_, refl, sym, ap, _∙_}
 use mathlib.Core.List.{[], _∷_}
-use mathlib.Core.Bool.{true, false}
+use mathlib.Core.Bool.{Bool, true, false}
 use Rattle.wire.specs.Judge.{toldWith}
 use Rattle.frame.specs.declared.Frame.{Frame}
 use Rattle.frame.specs.Rules.{frameRule}
 use Rattle.camera.specs.declared.Camera.{Camera}
 use Rattle.camera.specs.Series.{nextHolds}
 use Rattle.camera.specs.Camera.{cameraSecond}
+use Rattle.store.specs.declared.Store.{Store}
 use Rattle.store.specs.declared.Step.{Step}
-use Rattle.store.specs.Effects.{Stepped, stepOf, steppedOf, handedOf, nextEntry, afterSecond}
+use Rattle.store.specs.declared.tally.Survey.{Survey}
+use Rattle.store.specs.Slots.{idle}
+use Rattle.store.specs.Effects.{storeWith, handedOf, nextEntry, afterSecond}
 use Rattle.store.specs.Sound.{storeSound}
+use Rattle.store.specs.Tally.{surveyOf}
+use Rattle.store.specs.Second.{Stepped, stepOf, steppedOf}
 use Rattle.bench.specs.declared.Bench.{Bench}
-use Rattle.bench.specs.Status.{statusOf, benchSound, statusAt}
-use Rattle.bench.specs.Second.{executedAll, secondAt}
+use Rattle.bench.specs.Status.{statusOf, rulesHold, benchSound, statusAt}
+use Rattle.bench.specs.Order.{surveyed}
+use Rattle.bench.specs.Second.{stayedAt, executedAll, secondAt}
 
--- A bench is not sound where one of its tests fails; where those before it pass, the store's test decides.
 module _ (b : Bench) where
-  pub no-frame : frameRule (statusOf b) ≡ false → false ≡ benchSound b
-  unfolding benchSound
+  -- The rules outside the store do not hold where one of their tests fails; where those before it pass, the last decides.
+  pub no-frame : frameRule (statusOf b) ≡ false → false ≡ rulesHold b
   no-frame e = rw e
 
-  module _ (frame : frameRule (statusOf b) ≡ true) where
-    pub no-image : nextHolds (b .camera .image) ≡ false → false ≡ benchSound b
-    unfolding benchSound
-    no-image e = rw (frame, e)
+  pub no-image : frameRule (statusOf b) ≡ true → nextHolds (b .camera .image) ≡ false → false ≡ rulesHold b
+  no-image frame e = rw (frame, e)
 
-    module _ (image : nextHolds (b .camera .image) ≡ true) where
-      pub no-track : nextHolds (b .camera .track) ≡ false → false ≡ benchSound b
-      unfolding benchSound
-      no-track e = rw (frame, image, e)
+  pub by-track : frameRule (statusOf b) ≡ true → nextHolds (b .camera .image) ≡ true → nextHolds (b .camera .track) ≡ rulesHold b
+  by-track frame image = rw (frame, image)
 
-      pub by-store : nextHolds (b .camera .track) ≡ true → storeSound (b .store) ≡ benchSound b
-      unfolding benchSound
-      by-store e = rw (frame, image, e)
+  -- A bench whose rules do not hold is not sound; where they do, the store decides.
+  pub no-rules : rulesHold b ≡ false → benchSound b ≡ false
+  unfolding benchSound
+  no-rules e = rw e
+
+  pub by-store : rulesHold b ≡ true → benchSound b ≡ storeSound (b .store)
+  unfolding benchSound
+  by-store e = rw e
+
+  -- The survey of a bench, from that of its store.
+  module _ (survey : Survey) (is : survey ≡ surveyOf (b .store)) where
+    pub surveyed-rules : rulesHold b ≡ true → survey ≡ surveyed b
+    surveyed-rules e = rw (is, by-store e)
+
+    pub surveyed-no-rules : rulesHold b ≡ false → record { sound = false; tally = survey .tally } ≡ surveyed b
+    surveyed-no-rules e = rw (is, no-rules e)
 
 -- The status of a sound bench is known; any other bench gets 27.
 pub known : (b : Bench) (f : Frame) → benchSound b ≡ true → f ≡ statusOf b → record { code = 0; shown = f ∷ [] } ≡ statusAt b
@@ -44,16 +58,54 @@ pub unknown : (b : Bench) → benchSound b ≡ false → record { code = 27; sho
 unfolding statusAt
 unknown b unsound = rw unsound
 
--- A second of a bench that is not sound, and of one that is: the series, then what the store hands over.
-pub no-second : (b : Bench) → benchSound b ≡ false → record { told = toldWith 27 0; bench = b; handed = [] } ≡ secondAt b
+-- A second of a bench that is not sound.
+pub no-second : (b : Bench) → benchSound b ≡ false → stayedAt b ≡ secondAt b
 unfolding secondAt
 no-second b unsound = rw unsound
 
-pub second-passed : (b : Bench) (step : Step) (stepped done : Camera) → benchSound b ≡ true → stepOf step ≡ steppedOf (b .store)
-    → stepped ≡ cameraSecond (b .camera) → done ≡ executedAll stepped (handedOf (step .handed))
-    → record { told = toldWith 0 0; bench = record { camera = done; store = step .store }; handed = handedOf (step .handed) } ≡ secondAt b
-unfolding secondAt steppedOf
-second-passed b step stepped done sound e series executed =
-    let store : step .store ≡ afterSecond (b .store) = ap (λ (s : Stepped). s .store) e in
-    let handed : handedOf (step .handed) ≡ nextEntry (b .store) = ap (λ (s : Stepped). s .handed) e in
-    rw (executed, series, store, handed, sound)
+-- A second of a store tells whether the store is sound.
+step-sound : (s : Store) (step : Step) → stepOf step ≡ steppedOf s → step .sound ≡ storeSound s
+unfolding steppedOf
+step-sound s step e = ap (λ (r : Stepped). r .sound) e ∙ go (storeSound s) refl
+  where
+    go : (sound : Bool) → storeSound s ≡ sound → steppedOf s .sound ≡ storeSound s
+    go true is = rw is
+    go false is = rw is
+
+-- It changes two numbers, so the store afterwards is the old one with those.
+counted-on : (s : Store)
+    → storeWith (s .entries) (s .counts) (s .closed) (s .opened) (afterSecond s .running) (afterSecond s .left) ≡ afterSecond s
+counted-on s = go (idle s) refl
+  where
+    go : (none : Bool) → idle s ≡ none
+        → storeWith (s .entries) (s .counts) (s .closed) (s .opened) (afterSecond s .running) (afterSecond s .left) ≡ afterSecond s
+    go true is = rw is
+    go false is = rw is
+
+-- A second of a bench whose rules hold: 27 where its store is not sound; else the series, then what the store hands over.
+module _ (b : Bench) (step : Step) (rules : rulesHold b ≡ true) (stepped : stepOf step ≡ steppedOf (b .store)) where
+  pub no-step : step .sound ≡ false → stayedAt b ≡ secondAt b
+  no-step e = no-second b (by-store b rules ∙ sym (step-sound (b .store) step stepped) ∙ e)
+
+  pub second-passed : (camera done : Camera) → step .sound ≡ true → camera ≡ cameraSecond (b .camera)
+      → done ≡ executedAll camera (handedOf (step .handed))
+      → record {
+        told = toldWith 0 0;
+        bench = record {
+          camera = done;
+          store = storeWith (b .store .entries) (b .store .counts) (b .store .closed) (b .store .opened) (step .running) (step .left);
+        };
+        handed = handedOf (step .handed);
+      } ≡ secondAt b
+  unfolding secondAt steppedOf
+  second-passed camera done e series executed =
+      let s = b .store in
+      let store : storeSound s ≡ true = sym (step-sound s step stepped) ∙ e in
+      let sound : benchSound b ≡ true = by-store b rules ∙ store in
+      let told : stepOf step ≡ record { sound = true; running = afterSecond s .running; left = afterSecond s .left; handed = nextEntry s } =
+      rw store at stepped
+      in
+      let running : step .running ≡ afterSecond s .running = ap (λ (r : Stepped). r .running) told in
+      let left : step .left ≡ afterSecond s .left = ap (λ (r : Stepped). r .left) told in
+      let handed : handedOf (step .handed) ≡ nextEntry s = ap (λ (r : Stepped). r .handed) told in
+      rw (executed, series, handed, running, left, counted-on s, sound)

@@ -9,9 +9,12 @@ pub mod UniqueRun
 pub mod Rows
 pub mod Camera
 pub mod Sound
+pub mod ByTally
 pub mod MacroRun
 pub mod Outcomes
 pub mod Own
+mod Ordering
+mod Shapes
 mod Judging
 mod Listing
 mod TwoLists

@@ -1,7 +1,7 @@
 -- One list carried out command by command, as the code does it: what is left of the list, carried out from here, gives what the whole list gives from
--- its start. Three laws: the start of a walk, a turn of it, and its end.
+-- its start. Three laws: the start of a walk, a turn of it, and its end. The bench stays sound on the way, and the tally that judges true of it.
 use Prim.Native.Nat.{ℕ, _+_, _*_, _-_, _≤_, _<_}
-use mathlib.Core.Path.{_≡_, refl, sym, ap, _∙_}
+use mathlib.Core.Path.{_≡_, refl, sym, ap, _∙_, subst}
 use mathlib.Core.List.{List, [], _∷_, _++_, append-assoc}
 use native.Mathlib.Omega.{arith}
 use lib.ListN.{length, take, drop, length-append, length-drop, take-append-drop, drop-of-length-le}
@@ -9,15 +9,24 @@ use lib.Seq.{length-take-le, take-append-le, drop-append-le, take-at, drop-at, d
 use borrow.Rule.Slice.PartMut.{putMid}
 use Rattle.words.specs.BigEndian.{written}
 use Rattle.words.proofs.Laws.{with-room, part-written}
+use Rattle.wire.specs.declared.kinds.Command.{Command}
 use Rattle.wire.specs.declared.judging.Told.{Told}
 use Rattle.wire.specs.Read.{spanOf}
 use Rattle.walk.specs.Walk.{rests}
 use Rattle.walk.proofs.Rests.{rests-none, rests-more}
 use Rattle.walk.proofs.Turns.{from-place, CommandAt, command-at}
 use Rattle.report.specs.Record.{recordBytes}
+use Rattle.camera.specs.declared.Camera.{Camera}
+use Rattle.store.specs.declared.Store.{Store}
+use Rattle.store.specs.declared.tally.Tally.{Tally}
+use Rattle.store.specs.Tally.{storeOf, tallyAfter, entriesAfter, Tallied}
 use Rattle.bench.specs.declared.Bench.{Bench}
-use Rattle.bench.specs.Carry.{Outcome, taken}
+use Rattle.bench.specs.declared.orders.Order.{Order}
+use Rattle.bench.specs.Carry.{Outcome, verdictOf, cameraAfter, taken}
+use Rattle.bench.specs.Order.{Ordered, orderOf, orderIn, carriedBy}
 use Rattle.bench.specs.Run.{Listed, runRests, runList}
+use Rattle.bench.proofs.Sound.{GoodBench}
+use Rattle.bench.proofs.ByTally.{taken-by, taken-good, taken-tallied}
 
 -- Bytes that are written in two goes, the others behind the first, are written as one.
 pub written-both : (xs ys room : List ℕ) → length xs + length ys ≤ length room → written (xs ++ ys) room ≡ xs ++ written ys (drop (length xs) room)
@@ -40,8 +49,18 @@ records-long b sender number (r ∷ rs) = omega (arith, records-long (taken b r 
 abbrev pub onward : Bench → ℕ → List ℕ → ℕ → ℕ → Listed
 onward b sender list at n = runRests b sender (n + 1) (rests (drop at list))
 
--- Behind the first n commands of a list, which end at a place of it, with their records at the front of the room.
-pub record Behind (b₀ : Bench) (sender : ℕ) (list room₀ room : List ℕ) (b : Bench) (at n : ℕ) : Type 0 where
+-- The bench that the code holds in parts: a camera, entries and a tally. From its own parts, with a tally that is true of it, a bench is itself.
+abbrev pub benchOf : Camera → List Command → Tally → Bench
+benchOf camera entries t = record { camera = camera; store = storeOf entries t }
+
+own-parts : (b : Bench) (t : Tally) → Tallied (b .store) t → benchOf (b .camera) (b .store .entries) t ≡ b
+own-parts b t is = ap (λ (s : Store). record { camera = b .camera; store = s }) (is .same)
+
+-- Behind the first n commands of a list, which end at a place of it, with their records at the front of the room. The bench is sound there, and the
+-- tally true of it.
+pub record Behind (b₀ : Bench) (sender : ℕ) (list room₀ room : List ℕ) (b : Bench) (t : Tally) (at n : ℕ) : Type 0 where
+  pub good : GoodBench b
+  pub tallied : Tallied (b .store) t
   pub within : at ≤ length list
   pub same : length room ≡ length room₀
   pub counted : n + length (rests (drop at list)) ≡ length (rests list)
@@ -49,20 +68,56 @@ pub record Behind (b₀ : Bench) (sender : ℕ) (list room₀ room : List ℕ) (
   pub records :
       take (n * 8) room ++ written (onward b sender list at n .records) (drop (n * 8) room) ≡ written (runList b₀ sender list .records) room₀
 
-pub start : (b : Bench) (sender : ℕ) (list room : List ℕ) → Behind b sender list room room b 0 0
-start b sender list room = record { within = omega arith; same = refl; counted = omega arith; state = refl; records = refl }
+-- The start, with the bench in parts.
+pub start : (b : Bench) (t : Tally) (sender : ℕ) (list room : List ℕ) → GoodBench b → Tallied (b .store) t
+    → (let own = benchOf (b .camera) (b .store .entries) t in Behind own sender list room room own t 0 0)
+start b t sender list room good is =
+    subst (λ (own : Bench). Behind own sender list room room own t 0 0) (sym (own-parts b t is))
+    (record { good = good; tallied = is; within = omega arith; same = refl; counted = omega arith; state = refl; records = refl })
+
+-- Behind commands from a bench in parts is behind them from that bench.
+pub from-parts : {sender : ℕ} {list room₀ room : List ℕ} {b₁ : Bench} {t₁ : Tally} {at n : ℕ} (b : Bench) (t : Tally) → Tallied (b .store) t
+    → Behind (benchOf (b .camera) (b .store .entries) t) sender list room₀ room b₁ t₁ at n → Behind b sender list room₀ room b₁ t₁ at n
+from-parts {sender} {list} {room₀} {room} {b₁} {t₁} {at} {n} b t is behind =
+    subst (λ (own : Bench). Behind own sender list room₀ room b₁ t₁ at n) (own-parts b t is) behind
+
+-- What is left of a list at a place, as the code reads it.
+abbrev ahead : List ℕ → ℕ → List ℕ
+ahead list at = take (length list - at) (drop at list)
 
 -- Where bytes are left there is a command.
 pub more-rests : (list : List ℕ) (at : ℕ) → at < length list → 0 < length (rests (drop at list))
 more-rests list at more = rw (rests-more (drop at list) (omega (arith, length-drop at list))) (omega arith)
 
-module _ (b₀ : Bench) (sender : ℕ) (list room₀ room : List ℕ) (b : Bench) (at n : ℕ) (behind : Behind b₀ sender list room₀ room b at n) where
-  -- A turn: the command at the place is taken, its record put behind the others, and the next place lies behind it.
-  module _ (fits : length (rests list) * 8 ≤ length room₀) (more : at < length list) (outcome : Outcome) (told : Told) (part : List ℕ) (span : ℕ)
-      (took : outcome ≡ taken b (take (length list - at) (drop at list)))
-      (tells : told ≡ outcome .told)
+module _ {b₀ : Bench} {sender : ℕ} {list room₀ room : List ℕ} {b : Bench} {t : Tally} {at n : ℕ} (behind : Behind b₀ sender list room₀ room b t at n) where
+  -- A turn: what the tally orders for the command at the place takes effect, its record is put behind the others, and the next place lies behind it.
+  module _ (fits : length (rests list) * 8 ≤ length room₀) (more : at < length list)
+      (order : Order) {camera : Camera} {entries : List Command} {tally : Tally} {told : Told} {part : List ℕ} {span : ℕ}
+      (orders : orderOf order ≡ orderIn t (ahead list at))
+      (camera-is : camera ≡ cameraAfter (b .camera) (order .effect))
+      (entries-is : entries ≡ entriesAfter (b .store .entries) t (order .effect))
+      (tally-is : tally ≡ tallyAfter t (order .effect))
+      (tells : told ≡ verdictOf (order .verdict))
       (put : part ≡ written (recordBytes sender (told .code) (told .par) (n + 1)) (take (length room - n * 8) (drop (n * 8) room)))
-      (spans : span ≡ spanOf (take (length list - at) (drop at list))) where
+      (spans : span ≡ spanOf (ahead list at)) where
+    abbrev outcome : Outcome
+    outcome = record { told = told; bench = benchOf camera entries tally }
+
+    -- This is what becomes of the command by the store's own rows; it leaves a sound bench, and the tally true of it.
+    took : outcome ≡ taken b (ahead list at)
+    took =
+        rw (tells, camera-is, entries-is, tally-is)
+        (ap (λ (o : Ordered). carriedBy b t o) orders ∙ taken-by b t (behind .good) (behind .tallied) (ahead list at))
+
+    good-after : GoodBench (outcome .bench)
+    good-after = subst (λ (o : Outcome). GoodBench (o .bench)) (sym took) (taken-good b t (behind .good) (behind .tallied) (ahead list at))
+
+    tallied-after : Tallied (outcome .bench .store) tally
+    tallied-after =
+        let is : tally ≡ tallyAfter t (orderIn t (ahead list at) .effect) = tally-is ∙ ap (λ (o : Ordered). tallyAfter t (o .effect)) orders in
+        subst (λ (o : Outcome). Tallied (o .bench .store) tally) (sym took)
+        (rw is (taken-tallied b t (behind .good) (behind .tallied) (ahead list at)))
+
     here : CommandAt list at span
     here = command-at list at span more spans
 
@@ -79,7 +134,7 @@ module _ (b₀ : Bench) (sender : ℕ) (list room₀ room : List ℕ) (b : Bench
 
     split : onward b sender list at n ≡ record { bench = later .bench; records = own ++ later .records }
     unfolding runRests
-    split = rw (one, tells, took, from-place list at)
+    split = rw (one, ← from-place list at, ← took)
 
     size : n * 8 + 8 + 8 * length (rests (drop (at + span) list)) ≤ length room
     size = omega (arith, ap length one)
@@ -110,9 +165,11 @@ module _ (b₀ : Bench) (sender : ℕ) (list room₀ room : List ℕ) (b : Bench
         ∙ length-append (take (n * 8) room ++ own) beyond
         ∙ omega (arith, front, size, length-drop (n * 8) room, length-drop 8 (drop (n * 8) room))
 
-    pub turn : Behind b₀ sender list room₀ (putMid (n * 8) (length room - n * 8) room part) (outcome .bench) (at + span) (n + 1)
+    pub turn : Behind b₀ sender list room₀ (putMid (n * 8) (length room - n * 8) room part) (benchOf camera entries tally) tally (at + span) (n + 1)
     turn =
         record {
+          good = good-after;
+          tallied = tallied-after;
           within = here .ends;
           same = whole ∙ behind .same;
           counted = omega (arith, ap length one);
@@ -134,15 +191,19 @@ module _ (b₀ : Bench) (sender : ℕ) (list room₀ room : List ℕ) (b : Bench
     unfolding runRests
     ended = rw none
 
-    pub bench-ended : b ≡ runList b₀ sender list .bench
+    bench-ended : b ≡ runList b₀ sender list .bench
     bench-ended = ap (λ (l : Listed). l .bench) (sym ended) ∙ behind .state
 
-    pub all-counted : n ≡ length (rests list)
+    all-counted : n ≡ length (rests list)
     all-counted = omega (arith, behind .counted, ap length none)
 
-    pub room-ended : room ≡ written (runList b₀ sender list .records) room₀
+    room-ended : room ≡ written (runList b₀ sender list .records) room₀
     room-ended =
         sym (take-append-drop (n * 8) room)
         ∙ ap (λ l. take (n * 8) room ++ l) (sym (with-room [] (drop (n * 8) room) (omega arith)))
         ∙ ap (λ (l : Listed). take (n * 8) room ++ written (l .records) (drop (n * 8) room)) (sym ended)
         ∙ behind .records
+
+    pub list-ended : ((b ≡ runList b₀ sender list .bench) × (n ≡ length (rests list)))
+        × (Tallied (b .store) t × (room ≡ written (runList b₀ sender list .records) room₀))
+    list-ended = ((bench-ended, all-counted), (behind .tallied, room-ended))

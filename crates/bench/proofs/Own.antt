@@ -6,17 +6,30 @@ use mathlib.Core.List.{List, [], _∷_}
 use mathlib.Core.Bool.{Bool, true, false}
 use lib.Dec.{eqb}
 use borrow.Author.Tests.{eqb-true}
+use Rattle.wire.specs.declared.kinds.Command.{Command}
 use Rattle.wire.specs.declared.decoding.Reading.{Reading}
 use Rattle.wire.specs.Codes.{firstOf}
 use Rattle.wire.specs.Read.{Answer, answerOf, answerFor, readCode, readOf}
 use Rattle.walk.proofs.Shows.{first, own-read}
+use Rattle.store.specs.Checks.{permitCode}
 use Rattle.bench.specs.declared.Bench.{Bench}
-use Rattle.bench.specs.Carry.{Outcome, permitted, said, bytesChecks, taken}
-use Rattle.bench.proofs.Outcomes.{left, read-then, read-passed}
+use Rattle.bench.specs.Carry.{Outcome, outcomeFor, said, bytesChecks, taken}
+use Rattle.bench.proofs.Outcomes.{left, read-then}
+
+-- What rows 11 to 19 say of a command that was read.
+abbrev permitted : Bench → Command → Outcome
+permitted b c = outcomeFor (permitCode (b .store) c) b c
 
 -- The outcome, from what reading said.
 abbrev onReading : Bench → Answer → Outcome
 onReading b a = elim (a .taken) [ [] ↦ left (a .told) b | c ∷ cs ↦ permitted b c ]
+
+-- Where rows 1 to 10 pass, rows 11 to 19 say it.
+read-passed : (b : Bench) (s : List ℕ) → readCode s ≡ 0 → permitted b (said s) ≡ taken b s
+unfolding taken
+read-passed b s none =
+    let code : firstOf (bytesChecks b s) ≡ permitCode (b .store) (said s) = rw (read-then b s, none) in
+    ap (λ n. outcomeFor n b (said s)) (sym code)
 
 by-reading : (b : Bench) (s : List ℕ) → taken b s ≡ onReading b (readOf s)
 unfolding taken readOf
@@ -26,7 +39,7 @@ by-reading b s = go (eqb (readCode s) 0) refl
     go true is =
         let zero = eqb-true (readCode s) 0 is in
         let was : readOf s ≡ answerOf (Reading.Taken (said s)) = ap (λ n. answerFor n (said s)) zero in
-        sym (read-passed b s (said s) (sym was)) ∙ ap (onReading b) (sym was)
+        sym (read-passed b s zero) ∙ ap (onReading b) (sym was)
     go false is =
         let code : firstOf (bytesChecks b s) ≡ readCode s = rw (read-then b s, is) in rw (code, is)
 

@@ -10,6 +10,7 @@ use lib.Dec.{eqb}
 use borrow.Author.Tests.{eqb-true, eqb-false, le-leb, eq-eqb}
 use Rattle.words.proofs.Tests.{both}
 use Rattle.wire.specs.declared.kinds.Command.{Command}
+use Rattle.wire.specs.Codes.{firstOf}
 use Rattle.wire.specs.Judge.{judgeCode}
 use Rattle.wire.specs.Read.{readCode}
 use Rattle.wire.proofs.RoundTrip.{read-allowed}
@@ -28,10 +29,10 @@ use Rattle.store.proofs.Handed.{handed-plainly}
 use Rattle.store.proofs.Status.{marked-is}
 use Rattle.bench.specs.declared.Bench.{Bench}
 use Rattle.bench.specs.Status.{freshBench, statusOf, benchSound, statusAt}
-use Rattle.bench.specs.Carry.{outcomeFor, effectOf, carryCode, carryOut, said, carryBytesCode, carryOutBytes}
+use Rattle.bench.specs.Carry.{outcomeFor, effectOf, commandChecks, carryCode, carryOut, said, bytesChecks, carryBytesCode, carryOutBytes}
 use Rattle.bench.specs.Second.{benchAfter, secondAt}
 use Rattle.bench.specs.Events.{Event, command, bytes, second, afterOne, after, Reached, executes, accepts}
-use Rattle.bench.proofs.Outcomes.{read-then, carry-code, carry-bytes-code}
+use Rattle.bench.proofs.Outcomes.{judge-then, read-then, carry-code, carry-bytes-code}
 use Rattle.bench.proofs.Camera.{GoodCamera, fresh-camera, camera-second, executed-good, handed-good}
 
 -- A sound bench: it passes the test of 27, and its store has 192 slots, eight counts and eight marks, as every store of a program has by its type.
@@ -138,6 +139,16 @@ no-row first rest h = go (eqb first 0) refl
     go true e = (eqb-true first 0 e, rw e at h)
     go false e = absurd (eqb-false first 0 e (rw e at h))
 
+pub judge-accepted : (b : Bench) (c : Command) → firstOf (commandChecks b c) ≡ 0 → Accepted b c
+judge-accepted b c zero =
+    let parts = no-row (judgeCode c) (permitCode (b .store) c) (sym (judge-then b c) ∙ zero) in
+    record { judge = parts .0; permit = parts .1 }
+
+pub read-accepted : (b : Bench) (s : List ℕ) → firstOf (bytesChecks b s) ≡ 0 → Accepted b (said s)
+read-accepted b s zero =
+    let parts = no-row (readCode s) (permitCode (b .store) (said s)) (sym (read-then b s) ∙ zero) in
+    record { judge = read-allowed s (parts .0); permit = parts .1 }
+
 -- It keeps a bench sound.
 camera-after : (b : Bench) → GoodCamera (b .camera) → (c : Command) → judgeCode c ≡ 0 → (flag : Bool) → c .flag ≡ flag → GoodCamera (effectOf b c .camera)
 camera-after b good c judge true e = rw e good
@@ -171,8 +182,10 @@ by-command P b good c stays takes = by-code P b c (carryCode b c) stays (λ zero
   where
     taken : carryCode b c ≡ 0 → Takes b (command c) c
     taken zero =
-        let parts = no-row (judgeCode c) (permitCode (b .store) c) (sym (carry-code b c (good .sound)) ∙ zero) in
-        record { passed = record { judge = parts .0; permit = parts .1 }; told = λ test. rw (eq-eqb (carryCode b c) 0 zero) }
+        record {
+          passed = judge-accepted b c (judge-then b c ∙ sym (carry-code b c (good .sound)) ∙ zero);
+          told = λ test. rw (eq-eqb (carryCode b c) 0 zero);
+        }
 
 pub by-bytes : (P : Bench → Type 0) (b : Bench) → GoodBench b → (s : List ℕ)
     → P b → (Takes b (bytes s) (said s) → P (effectOf b (said s))) → P (afterOne b (bytes s))
@@ -181,9 +194,8 @@ by-bytes P b good s stays takes = by-code P b (said s) (carryBytesCode b s) stay
   where
     taken : carryBytesCode b s ≡ 0 → Takes b (bytes s) (said s)
     taken zero =
-        let parts = no-row (readCode s) (permitCode (b .store) (said s)) (sym (read-then b s) ∙ sym (carry-bytes-code b s (good .sound)) ∙ zero) in
         record {
-          passed = record { judge = read-allowed s (parts .0); permit = parts .1 };
+          passed = read-accepted b s (sym (carry-bytes-code b s (good .sound)) ∙ zero);
           told = λ test. rw (eq-eqb (carryBytesCode b s) 0 zero);
         }
 

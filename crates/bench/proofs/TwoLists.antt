@@ -1,8 +1,8 @@
--- A whole run, from what the code finds: what a refused run leaves, and that the records of both lists, the pupil's put behind the kit's, are the
--- report put as one.
+-- A whole run, from what the code finds: what a refused run leaves, that the kit's list leaves a sound bench to the pupil's, and that the records of
+-- both lists, the pupil's put behind the kit's, are the report put as one.
 use Prim.Native.Nat.{ℕ, _+_, _*_, _-_, _≤_}
 use mathlib.Core.Path.{_≡_, refl, sym, ap, _∙_}
-use mathlib.Core.List.{List, _++_}
+use mathlib.Core.List.{List, [], _∷_, _++_}
 use mathlib.Core.Bool.{false}
 use native.Mathlib.Omega.{arith}
 use lib.ListN.{length, take, drop, length-append, length-drop}
@@ -13,11 +13,23 @@ use Rattle.words.specs.BigEndian.{written}
 use Rattle.words.proofs.Laws.{with-room, part-written}
 use Rattle.walk.specs.Walk.{rests}
 use Rattle.walk.proofs.Turns.{from-place}
+use Rattle.store.specs.Tally.{tallyOf}
+use Rattle.store.proofs.Tallies.{tallied-own}
 use Rattle.bench.specs.declared.Bench.{Bench}
 use Rattle.bench.specs.declared.running.Ran.{Ran}
 use Rattle.bench.specs.declared.running.Begun.{Begun}
-use Rattle.bench.specs.Run.{runList, kitPart, pupilPart, runCode, begunCode, ranOf, refusedWith, runOf, roomAfter}
+use Rattle.bench.specs.Carry.{taken}
+use Rattle.bench.specs.Run.{runRests, runList, kitPart, pupilPart, runCode, begunCode, ranOf, refusedWith, runOf, roomAfter}
+use Rattle.bench.proofs.Sound.{GoodBench}
+use Rattle.bench.proofs.ByTally.{taken-good}
 use Rattle.bench.proofs.Listing.{records-long, written-both}
+
+-- A list keeps a bench sound.
+pub list-keeps : (b : Bench) → GoodBench b → (sender number : ℕ) (rs : List (List ℕ)) → GoodBench (runRests b sender number rs .bench)
+unfolding runRests
+list-keeps b good sender number [] = good
+list-keeps b good sender number (r ∷ rs) =
+    list-keeps (taken b r .bench) (taken-good b (tallyOf (b .store)) good (tallied-own (b .store) (good .shaped)) r) sender (number + 1) rs
 
 module _ (b : Bench) (kit pupil room : List ℕ) where
   -- What a run promises of its answer and of its room afterwards.
@@ -31,7 +43,7 @@ module _ (b : Bench) (kit pupil room : List ℕ) where
   refused-run begun r is other code = rw (is, code, other) (refl, refl)
 
   -- The records of both lists have room, and the kit's list was carried out with m of them.
-  module _ (fits : (length (rests kit) + length (rests pupil)) * 8 ≤ length room) (m : ℕ) (b₁ : Bench) (room₁ : List ℕ) (m-is : m ≡ length (rests kit))
+  module _ (fits : (length (rests kit) + length (rests pupil)) * 8 ≤ length room) {m : ℕ} {b₁ : Bench} {room₁ : List ℕ} (m-is : m ≡ length (rests kit))
       (b₁-is : b₁ ≡ kitPart b kit .bench) (room₁-is : room₁ ≡ written (kitPart b kit .records) room) where
     abbrev first : List ℕ
     first = kitPart b kit .records
@@ -52,7 +64,7 @@ module _ (b : Bench) (kit pupil room : List ℕ) where
     part-fits = rw (from-place room₁ (m * 8)) (omega (arith, rest-fits, length-drop (m * 8) room₁))
 
     -- The pupil's list was carried out then with n records, in that part of the room.
-    module _ (n : ℕ) (b₂ : Bench) (part : List ℕ) (n-is : n ≡ length (rests pupil)) (b₂-is : b₂ ≡ runList b₁ 2 pupil .bench)
+    module _ {n : ℕ} {b₂ : Bench} {part : List ℕ} (n-is : n ≡ length (rests pupil)) (b₂-is : b₂ ≡ runList b₁ 2 pupil .bench)
         (part-is : part ≡ written (runList b₁ 2 pupil .records) (take (length room₁ - m * 8) (drop (m * 8) room₁))) where
       abbrev second : List ℕ
       second = pupilPart b kit pupil .records

@@ -47,10 +47,6 @@ outcomeFor code b c = record { told = toldWith code (parFor code c); bench = con
 abbrev pub commandChecks : Bench → Command → List Check
 commandChecks b c = argChecks c ++ storeChecks (b .store) c
 
--- Rows 11 to 19 alone, on a command that was read or judged.
-unfoldable pub permitted : Bench → Command → Outcome
-permitted b c = outcomeFor (firstOf (storeChecks (b .store) c)) b c
-
 -- "Carrying one out tries 27, then .. 8 to 19 if it is already decoded."
 abbrev pub carryChecks : Bench → Command → List Check
 carryChecks b c = soundCheck b ∷ commandChecks b c

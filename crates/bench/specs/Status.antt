@@ -45,8 +45,11 @@ statusOf b =
 
 -- "A bench state is sound when its fields obey the status frame's rules; next is from 1 to the interval wherever a time is above 0; .."
 -- (the clauses on macros are the store's).
+abbrev pub rulesHold : Bench → Bool
+rulesHold b = frameRule (statusOf b) && nextHolds (b .camera .image) && nextHolds (b .camera .track)
+
 unfoldable pub benchSound : Bench → Bool
-benchSound b = frameRule (statusOf b) && nextHolds (b .camera .image) && nextHolds (b .camera .track) && storeSound (b .store)
+benchSound b = rulesHold b && storeSound (b .store)
 
 -- "then 27, the bench state handed in is not sound"
 abbrev pub soundCheck : Bench → Check

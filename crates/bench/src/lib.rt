@@ -2,26 +2,31 @@
 // A refused command hands back the bench as it came.
 ghost use mathlib.Core.Path.{_≡_};
 ghost use Rattle.store.specs.Effects.{handedOf};
-ghost use Rattle.bench.specs.Status.{freshBench, paceOf, statusOf, benchSound, toldStatus, statusAt};
-ghost use Rattle.bench.specs.Carry.{verdictOf, outcomeOf, cameraAfter, effectOf, permitted, carryOut, taken, carryOutBytes};
-ghost use Rattle.bench.specs.Second.{passedOf, executedAll, secondAt};
+ghost use Rattle.bench.specs.Status.{freshBench, paceOf, statusOf, rulesHold, benchSound, toldStatus, statusAt};
+ghost use Rattle.bench.specs.Carry.{verdictOf, outcomeOf, cameraAfter, carryOut, carryOutBytes};
+ghost use Rattle.bench.specs.Order.{orderOf, effectBy, carriedBy, surveyed};
+ghost use Rattle.bench.specs.Second.{passedOf, stayedAt, executedAll, secondAt};
 
+mod orders;
 mod running;
 
 use camera::Camera;
 use camera::Series;
 use frame::Frame;
 use frame::Pace;
+use orders::Order;
+use orders::order_by;
+use orders::order_in;
 pub use running::Begun;
 pub use running::ROOM;
 pub use running::Ran;
+pub use running::code_of;
 use store::Denial;
 use store::Handed;
-use store::Permit;
 use store::Store;
+use store::Survey;
+use store::Tally;
 use wire::Command;
-use wire::Judged;
-use wire::Reading;
 use wire::Refusal;
 use wire::Told;
 
@@ -92,6 +97,17 @@ fn camera_after(camera: Camera, command: Command) -> Camera
     }
 }
 
+// A second that a bench does not pass, for it is not sound.
+fn stayed(bench: Bench) -> Passed
+    ensures { λ r. ⌜ passedOf r ≡ stayedAt bench ⌝ }
+{
+    Passed {
+        bench,
+        verdict: Verdict::Unsound,
+        handed: Handed::Nothing,
+    }
+}
+
 // The camera after what a second handed over.
 fn executed_handed(camera: Camera, handed: Handed) -> Camera
     ensures { λ r. ⌜ r ≡ executedAll camera (handedOf handed) ⌝ }
@@ -140,9 +156,9 @@ impl Bench {
         }
     }
 
-    // Can this state be reached from a fresh bench, as far as its rules tell?
-    pub fn is_sound(self) -> bool
-        ensures { λ r. ⌜ r ≡ benchSound self ⌝ }
+    // The rules outside the macro store: those of the status frame, and of both series.
+    fn obeys(self) -> bool
+        ensures { λ r. ⌜ r ≡ rulesHold self ⌝ }
     {
         if !frame::obeys(self.fields()) {
             return false;
@@ -153,106 +169,111 @@ impl Bench {
             return false;
         }
         let track = camera.track;
-        if !track.is_paced() {
+        track.is_paced()
+    }
+
+    // Can this state be reached from a fresh bench, as far as its rules tell?
+    pub fn is_sound(self) -> bool
+        ensures { λ r. ⌜ r ≡ benchSound self ⌝ }
+    {
+        if !self.obeys() {
             return false;
         }
         let store = self.store;
         store.is_sound()
     }
 
-    // An accepted command takes effect.
-    fn effect(self, command: Command) -> Bench
-        ensures { λ r. ⌜ r ≡ effectOf self command ⌝ }
+    // Whether this state is sound, and the tally of its macros.
+    fn survey(self) -> Survey
+        ensures { λ r. ⌜ r ≡ surveyed self ⌝ }
+    {
+        let store = self.store;
+        let survey = store.survey();
+        if self.obeys() {
+            survey
+        } else {
+            Survey {
+                sound: false,
+                ..survey
+            }
+        }
+    }
+
+    // A command takes effect, by the tally of the macros.
+    fn after(self, tally: Tally, effect: Command) -> Bench
+        ensures { λ r. ⌜ r ≡ effectBy self tally effect ⌝ }
     {
         let camera = self.camera;
-        let camera = camera_after(camera, command);
+        let camera = camera_after(camera, effect);
         let store = self.store;
-        let store = store.applied(command);
+        let mut entries = store.entries;
+        if effect.flag {
+            entries[tally.slot()] = effect;
+        }
+        let store = Store::of_parts(entries, tally.after(effect));
         Bench { store, camera }
     }
 
-    // Codes 11 to 19, on a command that passed the earlier ones.
-    fn permit(self, command: Command) -> Carried
-        ensures { λ r. ⌜ outcomeOf r ≡ permitted self command ⌝ }
+    // An order is carried out, by the tally of the macros.
+    fn carried(self, tally: Tally, order: Order) -> Carried
+        ensures { λ r. ⌜ outcomeOf r ≡ carriedBy self tally (orderOf order) ⌝ }
     {
-        let store = self.store;
-        match store.permits(command) {
-            Permit::Denied(denial) => Carried {
-                bench: self,
-                verdict: Verdict::Denied(denial),
-            },
-            Permit::Granted => {
-                let bench = self.effect(command);
-                Carried {
-                    bench,
-                    verdict: Verdict::Accepted,
-                }
-            }
-        }
+        let verdict = order.verdict;
+        let effect = order.effect;
+        let bench = self.after(tally, effect);
+        Carried { bench, verdict }
     }
 
     // A decoded command: 27, then 8 to 19.
     pub fn carry_out(self, command: Command) -> Carried
         ensures { λ r. ⌜ outcomeOf r ≡ carryOut self command ⌝ }
     {
-        if !self.is_sound() {
+        let survey = self.survey();
+        if !survey.sound {
             return Carried {
                 bench: self,
                 verdict: Verdict::Unsound,
             };
         }
-        match wire::judge(command) {
-            Judged::Refused(refusal) => Carried {
-                bench: self,
-                verdict: Verdict::Misread(refusal),
-            },
-            Judged::Allowed => self.permit(command),
-        }
-    }
-
-    // The command at the front of these bytes, on a bench that is known to be sound: 1 to 19.
-    fn take(self, bytes: &[u8]) -> Carried
-        ensures { λ r. ⌜ outcomeOf r ≡ taken self (now (bytes .entry)) ⌝ }
-    {
-        match wire::read_command(bytes) {
-            Reading::Refused(refusal) => Carried {
-                bench: self,
-                verdict: Verdict::Misread(refusal),
-            },
-            Reading::Taken(command) => self.permit(command),
-        }
+        let tally = survey.tally;
+        self.carried(tally, order_by(tally, command))
     }
 
     // The command at the front of these bytes: 27, then 1 to 19.
     pub fn carry_out_bytes(self, bytes: &[u8]) -> Carried
         ensures { λ r. ⌜ outcomeOf r ≡ carryOutBytes self (now (bytes .entry)) ⌝ }
     {
-        if !self.is_sound() {
+        let survey = self.survey();
+        if !survey.sound {
             return Carried {
                 bench: self,
                 verdict: Verdict::Unsound,
             };
         }
-        self.take(bytes)
+        let tally = survey.tally;
+        self.carried(tally, order_in(tally, bytes))
     }
 
     // A second passes: 27; else the two series, then the running macro's next entry.
     pub fn second(self) -> Passed
         ensures { λ r. ⌜ passedOf r ≡ secondAt self ⌝ }
     {
-        if !self.is_sound() {
-            return Passed {
-                bench: self,
-                verdict: Verdict::Unsound,
-                handed: Handed::Nothing,
-            };
+        if !self.obeys() {
+            return stayed(self);
         }
         let store = self.store;
         let step = store.second();
+        if !step.sound {
+            return stayed(self);
+        }
         let handed = step.handed;
-        let store = step.store;
         let camera = self.camera;
         let camera = executed_handed(camera.second(), handed);
+        let store = Store {
+            running: step.running,
+            left: step.left,
+            ..store
+        };
         let bench = Bench { camera, store };
         Passed {
             bench,

@@ -1,12 +1,19 @@
 // The run of two lists, the kit's and then the pupil's, with a record of each command in a lent room. The state is judged once a run.
 ghost use Prim.Native.Nat.{_*_, _≤_};
 ghost use mathlib.Core.Path.{_≡_};
+ghost use mathlib.Core.Bool.{true};
 ghost use lib.ListN.{length};
 ghost use Rattle.words.specs.BigEndian.{written};
 ghost use Rattle.walk.specs.Walk.{rests};
-ghost use Rattle.bench.specs.Run.{runList, refusedWith, ranOf, runOf, roomAfter};
+ghost use Rattle.store.specs.Tally.{Tallied};
+ghost use Rattle.bench.specs.Status.{benchSound};
+ghost use Rattle.bench.specs.Run.{begunCode, runList, refusedWith, ranOf, runOf, roomAfter};
 use super::Bench;
+use super::camera_after;
+use super::orders::order_in;
 use super::told_of;
+use store::Store;
+use store::Tally;
 
 // The room that a run needs: a record for each command that two lists of the longest can have.
 pub const ROOM: usize = 8192;
@@ -26,33 +33,63 @@ pub struct Ran {
     pub pupil: u32,
 }
 
-// One list carried out: the bench afterwards, and how many commands it had.
+// The code of a run's answer.
+pub fn code_of(begun: Begun) -> u8
+    ensures { λ r. ⌜ r ≡ begunCode begun ⌝ }
+{
+    match begun {
+        Begun::Done => 0,
+        Begun::ListTooLong => 20,
+        Begun::RoomTooSmall => 21,
+        Begun::Unsound => 27,
+    }
+}
+
+// One list carried out: the bench afterwards with the tally of its macros, and how many commands the list had.
 pub struct Part {
     pub bench: Bench,
+    pub tally: Tally,
     pub count: u32,
 }
 
-// Carries a list out and puts the records of its commands, one after another, into the front of a room.
-fn run_list(bench: Bench, list: &[u8], sender: u8, room: &mut [u8]) -> Part
+// Carries a list out and puts the records of its commands, one after another, into the front of a room. The macros' entries stay where they are: each
+// command is judged by the tally, and an appended one is put into its own slot.
+fn run_list(bench: Bench, tally: Tally, list: &[u8], sender: u8, room: &mut [u8]) -> Part
     requires { ⌜ (length (now list) ≤ 4096) × (length (rests (now list)) * 8 ≤ length (now room)) ⌝ }
+    requires { ⌜ (benchSound bench ≡ true) × Tallied (bench .store) tally ⌝ }
     ensures { λ r. ⌜ (r .bench ≡ runList bench sender (now (list .entry)) .bench) × (r .count ≡ length (rests (now (list .entry)))) ⌝ }
+    ensures { λ r. ⌜ Tallied (r .bench .store) (r .tally) ⌝ }
     ensures { λ r. ⌜ now (room .exit) ≡ written (runList bench sender (now (list .entry)) .records) (now (room .entry)) ⌝ }
 {
-    let mut bench = bench;
+    let mut camera = bench.camera;
+    let store = bench.store;
+    let mut entries = store.entries;
+    let mut tally = tally;
     let mut at: usize = 0;
     let mut count: u32 = 0;
     while at < list.len() {
         let rest = &list[at..];
-        let carried = bench.take(rest);
-        bench = carried.bench;
-        let verdict = carried.verdict;
+        let order = order_in(tally, rest);
+        let effect = order.effect;
+        camera = camera_after(camera, effect);
+        if effect.flag {
+            entries[tally.slot()] = effect;
+        }
+        tally = tally.after(effect);
+        let verdict = order.verdict;
         let told = told_of(verdict);
         let end = (count as usize) * report::RECORD;
         count += 1;
         report::put_record(&mut room[end..], sender, told.code, told.par, count);
         at += wire::span(rest);
     }
-    Part { bench, count }
+    let store = Store::of_parts(entries, tally);
+    let bench = Bench { camera, store };
+    Part {
+        bench,
+        tally,
+        count,
+    }
 }
 
 impl Bench {
@@ -70,13 +107,16 @@ impl Bench {
         if room.len() < ROOM {
             return refused(self, Begun::RoomTooSmall);
         }
-        if !self.is_sound() {
+        let survey = self.survey();
+        if !survey.sound {
             return refused(self, Begun::Unsound);
         }
-        let first = run_list(self, kit, walk::KIT, room);
+        let tally = survey.tally;
+        let first = run_list(self, tally, kit, walk::KIT, room);
         let end = (first.count as usize) * report::RECORD;
         let bench = first.bench;
-        let second = run_list(bench, pupil, walk::PUPIL, &mut room[end..]);
+        let tally = first.tally;
+        let second = run_list(bench, tally, pupil, walk::PUPIL, &mut room[end..]);
         let bench = second.bench;
         Ran {
             bench,

@@ -1,18 +1,20 @@
 -- Laws of the store's meanings that the proofs of its functions share.
-use Prim.Native.Nat.{ℕ, _≤_, min}
-use mathlib.Core.Path.{_≡_, refl, sym}
+use Prim.Native.Nat.{ℕ, _≤_, _<_, min}
+use mathlib.Core.Path.{_≡_, refl, sym, _∙_}
 use mathlib.Core.List.{List, [], _∷_}
-use mathlib.Core.Bool.{Bool, true, false, not, _&&_, false≢true}
+use mathlib.Core.Bool.{Bool, true, false, not}
 use native.Mathlib.Omega.{arith}
 use lib.ListN.{length, getD, set, List·getD-eq-default}
 use lib.Seq.{set-out}
 use lib.Dec.{leb, ltb}
 use denote.Enum.Declared.{tagOf}
 use types.Run.{OneOf, miss}
-use borrow.Author.Tests.{lt-ltb, le-ltb, ltb-true, ltb-false, leb-true, leb-false}
+use borrow.Author.Tests.{lt-ltb, le-ltb, ltb-true, ltb-false, leb-true, leb-false, not-true}
+use Rattle.words.proofs.Tests.{both}
 use Rattle.store.specs.declared.roles.Role.{Role}
 use Rattle.store.specs.Roles.{isOpen, isClose, isRun, isClear}
 use Rattle.store.specs.Slots.{bit}
+use Rattle.store.specs.Tally.{hasSlot}
 use Rattle.store.proofs.roles.Role.{the-type}
 
 -- Past the end of a list nothing is read, and nothing is written.
@@ -43,14 +45,12 @@ over-capped n = go (ltb 600 n) refl
     go true e = lt-ltb 600 (min 601 n) (omega (arith, ltb-true 600 n e))
     go false e = le-ltb 600 (min 601 n) (omega (arith, ltb-false 600 n e))
 
--- Both of two tests hold where their conjunction does.
-pub and-left : (a b : Bool) → (a && b) ≡ true → a ≡ true
-and-left true b e = refl
-and-left false b e = e
-
-pub and-right : (a b : Bool) → (a && b) ≡ true → b ≡ true
-and-right true b e = e
-and-right false b e = absurd (false≢true e)
+-- A macro with a slot to spare is one of the eight, and has fewer than 24 entries.
+pub slot-free : (counts : List ℕ) (m : ℕ) (free : Bool) → free ≡ hasSlot counts m → free ≡ true → (m < 8) × (getD counts m 0 < 24)
+slot-free counts m free is holds =
+    let full = leb 24 (getD counts m 0) in
+    let tests = both (ltb m 8) (not full) (sym is ∙ holds) in
+    (ltb-true m 8 (tests .0), leb-false 24 (getD counts m 0) (not-true full (tests .1)))
 
 -- The tags of the roles that a test of roles does not pass, and that a role with such a tag does not.
 abbrev unopen : List ℕ

@@ -149,7 +149,7 @@ module _ (s : Store) (m : ℕ) (table : List ℕ) (told : TellsBelow s m table) 
   length-told = spans-told (entriesOf s m) ∙ ap (λ l. min 601 (length l)) (sym (written-parts s m))
 
 -- The table of the lengths below n has a place for all eight macros, and tells those below n.
-length-lengthsTo : (s : Store) (n : ℕ) → length (lengthsTo s n) ≡ 8
+pub length-lengthsTo : (s : Store) (n : ℕ) → length (lengthsTo s n) ≡ 8
 unfolding lengthsTo
 length-lengthsTo s zero = refl
 length-lengthsTo s (suc n) = rw length-set (length-lengthsTo s n)
@@ -166,8 +166,9 @@ lengths-tell s (suc n) h j below = step (λ under. lengths-tell s n (omega arith
     step rest false e =
         getD-set-other (lengthsTo s n) n j (cappedLength s n) 0 (eqb-false j n e) ∙ rest (omega (arith, eqb-false j n e))
 
-pub length-in-table : (s : Store) (m : ℕ) (table : List ℕ) → m < 8 → table ≡ lengthsTo s (m + 1) → getD table m 0 ≡ cappedLength s m
-length-in-table s m table h is = rw is (lengths-tell s (m + 1) (omega arith) m (omega arith))
+-- The table of all eight lengths tells each.
+pub all-told : (s : Store) (table : List ℕ) → table ≡ lengthsTo s 8 → TellsBelow s 8 table
+all-told s table is j below = rw is (lengths-tell s 8 (omega arith) j below)
 
 -- The table with macro m's length added, by the entries' spans.
 pub lengths-more : (s : Store) (n m : ℕ) (table : List ℕ) → n ≤ 8 → m ≡ n - 1 → (n ≡ 0 → ⊥) → table ≡ lengthsTo s m

@@ -11,3 +11,4 @@ pub mod Walk
 pub mod Lengths
 pub mod Covers
 pub mod SoundLaws
+pub mod Tallies

@@ -227,7 +227,7 @@ module _ (s : Store) (good : Good s) (c : Command) (judge : judgeCode c ≡ 0) (
       (λ e. executed-idle s (roleOf (c .kind)) (executed-test c (isRun (roleOf (c .kind))) e other) free)
 
 -- An entry more in macro m, not closed: its list is the one before, followed by the entry's part.
-kept-written : (s : Store) → Good s → (m : ℕ) (c : Command) → m < 8 → countOf s m < 24 → isClosed s m ≡ false
+pub kept-written : (s : Store) → Good s → (m : ℕ) (c : Command) → m < 8 → countOf s m < 24 → isClosed s m ≡ false
     → writtenOut (kept s m c) m ≡ writtenOut s m ++ partOf s m c
 unfolding kept
 kept-written s good m c small room u =

@@ -8,6 +8,7 @@ use native.Mathlib.Numerals.{add-one}
 use lib.ListN.{length, getD, List·getD-eq-default}
 use lib.Dec.{leb, eqb}
 use borrow.Author.Tests.{leb-true, leb-false, eq-eqb, ne-eqb, eqb-true, eqb-false}
+use Rattle.words.proofs.Tests.{both}
 use Rattle.wire.specs.declared.kinds.Command.{Command}
 use Rattle.wire.specs.declared.judging.Refusal.{Refusal}
 use Rattle.wire.specs.declared.judging.Judged.{Judged}
@@ -109,21 +110,13 @@ module _ (s : Store) (m count : ℕ) (shut : Bool) (counted : count ≡ countOf 
   pub other-told : shut ≡ false → (s .opened ≡ m → ⊥) → true ≡ macroHolds s m
   other-told is opened = rw (← marked, is, ne-eqb (s .opened) m opened)
 
-and-first : (a b : Bool) → (a && b) ≡ true → a ≡ true
-and-first true b h = refl
-and-first false b h = h
-
-and-last : (a b : Bool) → (a && b) ≡ true → b ≡ true
-and-last true b h = h
-and-last false b h = absurd (let z : _≡_ {A = ℕ} 0 1 = cc in omega arith)
-
 -- Where every macro holds, the running one's capped length is its length.
 short : (s : Store) (m : ℕ) → isClosed s m ≡ true → macroHolds s m ≡ true → length (writtenOut s m) ≤ 600
 short s m shut holds =
     let judged : closedHolds s m ≡ true = rw shut at holds in
     let before : Bool = leb 1 (countOf s m) && leb (countOf s m) 24 && leb 1 (length (writtenOut s m)) in
     let fits : Bool = leb (length (writtenOut s m)) 600 in
-    leb-true (length (writtenOut s m)) 600 (and-last before fits (and-first (before && fits) (entriesHold s m) judged))
+    leb-true (length (writtenOut s m)) 600 (both before fits (both (before && fits) (entriesHold s m) judged .0) .1)
 
 -- A mark that is set is one of the eight.
 below : (n : ℕ) (marks : List Bool) (m : ℕ) → length marks ≡ n → getD marks m false ≡ true → m < n

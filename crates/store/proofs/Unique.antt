@@ -11,7 +11,8 @@ use Rattle.store.specs.declared.checks.Permit.{Permit}
 use Rattle.store.specs.declared.lookup.Handed.{Handed}
 use Rattle.store.specs.declared.Step.{Step}
 use Rattle.store.specs.Checks.{codeOf, toldPermit}
-use Rattle.store.specs.Effects.{Stepped, handedOf, stepOf}
+use Rattle.store.specs.Effects.{handedOf}
+use Rattle.store.specs.Second.{Stepped, stepWith, stepOf}
 
 -- The permit of a code: 0 is permission.
 denialOf : ℕ → Denial
@@ -61,9 +62,9 @@ handed-back (Handed.Over kind) = refl
 pub handed-told : (a b : Handed) → handedOf a ≡ handedOf b → a ≡ b
 handed-told = one-to-one handedOf handedFrom handed-back
 
--- A step is its store and what it handed over.
+-- A step is whether the store is sound, the run afterwards and what was handed over.
 stepFrom : Stepped → Step
-stepFrom s = record { store = s .store; handed = handedFrom (s .handed) }
+stepFrom s = stepWith (s .sound) (s .running) (s .left) (handedFrom (s .handed))
 
 step-back : (r : Step) → stepFrom (stepOf r) ≡ r
 unfolding stepFrom

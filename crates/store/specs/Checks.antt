@@ -71,15 +71,19 @@ abbrev pub entryChecks : Bool → Role → ℕ → List Bool → ℕ → ℕ →
 entryChecks flag role count closed opened running =
     16 when row16 flag count ∷ 17 when row17 flag role opened ∷ 18 when row18 role closed ∷ 19 when row19 flag role running ∷ []
 
--- The rows in their order, for a flag and a role.
+-- The rows in their order, on the numbers that they ask: how many entries the open macro has, and how many seconds it lasts.
+abbrev pub rowsFor : Bool → Role → ℕ → List Bool → ℕ → ℕ → ℕ → List Check
+rowsFor flag role opened closed count seconds running =
+    11 when row11 flag role opened
+    ∷ 12 when row12 role opened
+    ∷ 13 when row13 role closed
+    ∷ 14 when row14 role count
+    ∷ 15 when row15 role seconds
+    ∷ entryChecks flag role count closed opened running
+
 abbrev pub checksAs : Store → Bool → Role → List Check
 checksAs s flag role =
-    11 when row11 flag role (s .opened)
-    ∷ 12 when row12 role (s .opened)
-    ∷ 13 when row13 role (s .closed)
-    ∷ 14 when row14 role (countOf s (s .opened))
-    ∷ 15 when row15 role (length (writtenOut s (s .opened)))
-    ∷ entryChecks flag role (countOf s (s .opened)) (s .closed) (s .opened) (s .running)
+    rowsFor flag role (s .opened) (s .closed) (countOf s (s .opened)) (length (writtenOut s (s .opened))) (s .running)
 
 abbrev pub storeChecks : Store → Command → List Check
 storeChecks s c = checksAs s (c .flag) (roleOf (c .kind))

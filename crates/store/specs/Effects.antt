@@ -9,7 +9,6 @@ use Rattle.wire.specs.declared.kinds.Command.{Command}
 use Rattle.store.specs.declared.Store.{Store}
 use Rattle.store.specs.declared.roles.Role.{Role}
 use Rattle.store.specs.declared.lookup.Handed.{Handed}
-use Rattle.store.specs.declared.Step.{Step}
 use Rattle.store.specs.Roles.{roleOf}
 use Rattle.store.specs.Slots.{emptySlot, idle, full, kept}
 use Rattle.store.specs.WrittenOut.{cappedLength, entryAt}
@@ -79,14 +78,3 @@ countedDown s =
 
 abbrev pub afterSecond : Store → Store
 afterSecond s = cond (idle s) s (countedDown s)
-
--- A second's step: the store, and what was handed over.
-pub record Stepped : Type 0 where
-  pub store : Store
-  pub handed : List Kind
-
-abbrev pub stepOf : Step → Stepped
-stepOf r = record { store = r .store; handed = handedOf (r .handed) }
-
-unfoldable pub steppedOf : Store → Stepped
-steppedOf s = record { store = afterSecond s; handed = nextEntry s }

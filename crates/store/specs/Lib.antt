@@ -7,3 +7,5 @@ pub mod Checks
 pub mod Effects
 pub mod Fits
 pub mod Sound
+pub mod Tally
+pub mod Second

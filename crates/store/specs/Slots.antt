@@ -1,4 +1,4 @@
--- Where the entries of a macro are kept. Only `entriesOf` and `kept` know the slots; every rule speaks of a macro's entries.
+-- Where the entries of a macro are kept. Only `entriesOf` and `slotAt` know the slots; every rule speaks of a macro's entries.
 use Prim.Native.Nat.{ℕ, _+_, _*_, min}
 use mathlib.Core.List.{List}
 use mathlib.Core.Bool.{Bool, true, false}
@@ -39,6 +39,10 @@ isClosed s m = getD (s .closed) m false
 abbrev pub idle : Store → Bool
 idle s = eqb (s .running) 255
 
+-- The slot of entry i, from 0, of macro m.
+abbrev pub slotAt : ℕ → ℕ → ℕ
+slotAt m i = m * 24 + i
+
 -- The entries of a macro, in their order.
 unfoldable pub entriesOf : Store → ℕ → List Command
 entriesOf s m = take (min 24 (countOf s m)) (drop (m * 24) (s .entries))
@@ -51,7 +55,7 @@ full s m = leb 24 (countOf s m)
 unfoldable pub kept : Store → ℕ → Command → Store
 kept s m c =
     record {
-      entries = set (s .entries) (m * 24 + countOf s m) c;
+      entries = set (s .entries) (slotAt m (countOf s m)) c;
       counts = set (s .counts) m (countOf s m + 1);
       closed = s .closed;
       opened = s .opened;

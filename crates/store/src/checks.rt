@@ -1,8 +1,9 @@
 // Rows 11 to 19 of the codes, each as a test on the few numbers that it looks at.
 ghost use mathlib.Core.Path.{_≡_};
 ghost use Rattle.wire.specs.Codes.{firstOf};
-ghost use Rattle.store.specs.Checks.{codeOf, toldPermit, row11, row12, row13, row14, row17, row18, row19, entryChecks};
+ghost use Rattle.store.specs.Checks.{codeOf, toldPermit, row11, row12, row13, row14, row15, row17, row18, row19, entryChecks};
 use super::ENTRIES;
+use super::LONGEST;
 use super::NONE;
 use super::roles::Role;
 use super::roles::is_clear;
@@ -83,6 +84,17 @@ pub fn closes_empty(role: Role, count: u8) -> bool
     ensures { λ r. ⌜ r ≡ row14 role count ⌝ }
 {
     if is_close(role) { count == 0 } else { false }
+}
+
+// Row 15: CLOSE where the written-out length exceeds LONGEST.
+pub fn closes_too_long(role: Role, length: u16) -> bool
+    ensures { λ r. ⌜ r ≡ row15 role length ⌝ }
+{
+    if is_close(role) {
+        LONGEST < length
+    } else {
+        false
+    }
 }
 
 // Row 17: appended RUN whose number is not below the open macro's.

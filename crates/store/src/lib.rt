@@ -1,19 +1,20 @@
 // The macro store: what each macro holds, which is open or runs, codes 11 to 19, the written-out list of a macro and its seconds.
 // Every function is total: a store that no command sequence can reach is answered too, and nothing runs on.
 ghost use mathlib.Core.Path.{_≡_};
-ghost use lib.ListN.{length};
+ghost use mathlib.Core.Bool.{cond};
+ghost use lib.Dec.{eqb};
 ghost use Rattle.store.specs.Slots.{marksOf};
-ghost use Rattle.store.specs.WrittenOut.{writtenOut, cappedLength};
-ghost use Rattle.store.specs.Checks.{toldPermit, permitCode, row15};
-ghost use Rattle.store.specs.Effects.{freshSlots, freshStore, countedDown, appendedOf, openedOf, closedOf, startedOf};
-ghost use Rattle.store.specs.Effects.{stoppedOf, clearedOf, executedAs, appliedOf, stepOf, steppedOf};
+ghost use Rattle.store.specs.Effects.{freshSlots, freshStore};
 ghost use Rattle.store.specs.Sound.{storeSound};
+ghost use Rattle.store.specs.Tally.{storeOf, surveyOf};
+ghost use Rattle.store.specs.Second.{stepWith, stepOf, steppedOf};
 
 mod checks;
 mod lookup;
 mod roles;
 mod slots;
 mod soundness;
+mod tally;
 
 pub use checks::Denial;
 pub use checks::Permit;
@@ -21,6 +22,8 @@ pub use checks::code_of;
 pub use lookup::Handed;
 pub use roles::Role;
 pub use roles::role_of;
+pub use tally::Survey;
+pub use tally::Tally;
 use wire::Command;
 use wire::Kind;
 
@@ -46,10 +49,30 @@ pub struct Store {
     pub left: u16,
 }
 
-// A second's step: the store afterwards, and what was handed over.
+// A second's step: whether the store is sound, the macro that runs afterwards with its seconds left, and what was handed over.
 pub struct Step {
-    pub store: Store,
+    pub sound: bool,
+    pub running: u8,
+    pub left: u16,
     pub handed: Handed,
+}
+
+fn step_with(sound: bool, running: u8, left: u16, handed: Handed) -> Step
+    ensures { λ r. ⌜ r ≡ stepWith sound running left handed ⌝ }
+{
+    Step {
+        sound,
+        running,
+        left,
+        handed,
+    }
+}
+
+// The macro that runs on with so many seconds left; none after the last one.
+fn still_running(running: u8, left: u16) -> u8
+    ensures { λ r. ⌜ r ≡ cond (eqb left 0) 255 running ⌝ }
+{
+    if left == 0 { NONE } else { running }
 }
 
 fn empty_slots() -> [Command; 192]
@@ -77,171 +100,66 @@ impl Store {
         }
     }
 
-    // Codes 11 to 19, on a command that passed 8 to 10.
-    pub fn permits(self, command: Command) -> Permit
-        ensures { λ r. ⌜ toldPermit r ≡ permitCode self command ⌝ }
+    // A store from its entries and its tally.
+    pub fn of_parts(entries: [Command; 192], tally: Tally) -> Store
+        ensures { λ r. ⌜ r ≡ storeOf entries tally ⌝ }
     {
-        let flag = command.flag;
-        let kind = command.kind;
-        let role = roles::role_of(kind);
-        let counts = self.counts;
-        let closed = self.closed;
-        let opened = self.opened;
-        if checks::lacks_open(flag, role, opened) {
-            return Permit::Denied(Denial::NoneOpen);
-        }
-        if checks::opens_another(role, opened) {
-            return Permit::Denied(Denial::AnotherOpen);
-        }
-        if checks::opens_closed(role, closed) {
-            return Permit::Denied(Denial::AlreadyClosed);
-        }
-        if checks::closes_empty(role, slots::count_at(counts, opened)) {
-            return Permit::Denied(Denial::NoEntries);
-        }
-        if self.closes_too_long(role) {
-            return Permit::Denied(Denial::TooLong);
-        }
-        checks::permits_entry(
-            flag,
-            role,
-            slots::count_at(counts, opened),
-            closed,
-            opened,
-            self.running,
-        )
-    }
-
-    // Row 15. The length is only worked out for a CLOSE.
-    fn closes_too_long(self, role: Role) -> bool
-        ensures { λ r. ⌜ r ≡ row15 role (length (writtenOut self (self .opened))) ⌝ }
-    {
-        if roles::is_close(role) {
-            LONGEST < self.length_of(self.opened)
-        } else {
-            false
-        }
-    }
-
-    // The length of a macro's written-out list, in seconds; TOO_LONG stands for every length above LONGEST.
-    pub fn length_of(self, m: u8) -> u16
-        ensures { λ r. ⌜ r ≡ cappedLength self m ⌝ }
-    {
-        lookup::length_in(self, m)
-    }
-
-    fn appended(self, command: Command) -> Store
-        ensures { λ r. ⌜ r ≡ appendedOf self command ⌝ }
-    {
-        let counts = self.counts;
-        if slots::has_slot(counts, self.opened) {
-            slots::keep(self, self.opened, command)
-        } else {
-            self
-        }
-    }
-
-    fn opening(self, m: u8) -> Store
-        ensures { λ r. ⌜ r ≡ openedOf self m ⌝ }
-    {
-        let counts = self.counts;
-        let counts = slots::emptied(counts, m);
+        let counts = tally.counts;
+        let closed = tally.closed;
         Store {
+            entries,
             counts,
-            opened: m,
-            ..self
-        }
-    }
-
-    fn closing(self) -> Store
-        ensures { λ r. ⌜ r ≡ closedOf self ⌝ }
-    {
-        let closed = self.closed;
-        let closed = slots::marked(closed, self.opened);
-        Store {
             closed,
-            opened: NONE,
-            ..self
+            opened: tally.opened,
+            running: tally.running,
+            left: tally.left,
         }
     }
 
-    fn starting(self, m: u8) -> Store
-        ensures { λ r. ⌜ r ≡ startedOf self m ⌝ }
+    // The store's part of a sound state, and its tally; the lengths are worked out once for both.
+    pub fn survey(self) -> Survey
+        ensures { λ r. ⌜ r ≡ surveyOf self ⌝ }
     {
-        let left = self.length_of(m);
-        Store {
-            running: m,
-            left,
-            ..self
-        }
+        let counts = self.counts;
+        let closed = self.closed;
+        let lengths = lookup::lengths_below(self, MACROS as u8);
+        let tally = Tally {
+            counts,
+            closed,
+            lengths,
+            opened: self.opened,
+            running: self.running,
+            left: self.left,
+        };
+        let sound = soundness::holds(self, lengths);
+        Survey { sound, tally }
     }
 
-    fn executed(self, role: Role) -> Store
-        ensures { λ r. ⌜ r ≡ executedAs self role ⌝ }
+    // The store's part of a sound state.
+    pub fn is_sound(self) -> bool
+        ensures { λ r. ⌜ r ≡ storeSound self ⌝ }
     {
-        match role {
-            Role::Plain => self,
-            Role::Open(m) => self.opening(m),
-            Role::Close => self.closing(),
-            Role::Run(m) => self.starting(m),
-            Role::Wait(_) => self,
-            Role::Stop => Store {
-                running: NONE,
-                left: 0,
-                ..self
-            },
-            Role::Clear => Store {
-                counts: [0; 8],
-                closed: [false; 8],
-                opened: NONE,
-                ..self
-            },
-        }
+        let survey = self.survey();
+        survey.sound
     }
 
-    // The effect of an accepted command; a plain one that is executed is not the store's.
-    pub fn applied(self, command: Command) -> Store
-        ensures { λ r. ⌜ r ≡ appliedOf self command ⌝ }
-    {
-        if command.flag {
-            self.appended(command)
-        } else {
-            let kind = command.kind;
-            self.executed(roles::role_of(kind))
-        }
-    }
-
-    // The second of the two things that a second does: the running macro's next entry is handed over.
+    // The second of the two things that a second does: the running macro's next entry is handed over, and one second less is left. A store that is
+    // not sound stays.
     pub fn second(self) -> Step
         ensures { λ r. ⌜ stepOf r ≡ steppedOf self ⌝ }
     {
-        if self.running == NONE {
-            return Step {
-                store: self,
-                handed: Handed::Nothing,
-            };
+        let running = self.running;
+        let left = self.left;
+        let lengths = lookup::lengths_below(self, MACROS as u8);
+        if !soundness::holds(self, lengths) {
+            return step_with(false, running, left, Handed::Nothing);
         }
-        let handed = lookup::next_in(self, self.running, self.left);
-        let store = self.counted_down();
-        Step { store, handed }
-    }
-
-    // One second less; after the last one no macro runs.
-    fn counted_down(self) -> Store
-        ensures { λ r. ⌜ r ≡ countedDown self ⌝ }
-    {
-        if self.left <= 1 {
-            Store {
-                running: NONE,
-                left: 0,
-                ..self
-            }
-        } else {
-            Store {
-                left: self.left - 1,
-                ..self
-            }
+        if running == NONE {
+            return step_with(true, running, left, Handed::Nothing);
         }
+        let handed = lookup::next_in(self, running, left, lengths);
+        let left = lookup::less(left, 1);
+        step_with(true, still_running(running, left), left, handed)
     }
 
     // The closed macros as a byte, bit m for macro m.
@@ -250,12 +168,5 @@ impl Store {
     {
         let closed = self.closed;
         slots::byte_of(closed)
-    }
-
-    // The store's part of a sound state.
-    pub fn is_sound(self) -> bool
-        ensures { λ r. ⌜ r ≡ storeSound self ⌝ }
-    {
-        soundness::holds(self)
     }
 }

@@ -33,7 +33,7 @@ pub enum Covering {
 }
 
 // A sum of seconds, told up to TOO_LONG.
-fn added(a: u16, b: u16) -> u16
+pub fn added(a: u16, b: u16) -> u16
     ensures { λ r. ⌜ r ≡ min 601 (a + b) ⌝ }
 {
     if TOO_LONG <= a {
@@ -46,7 +46,7 @@ fn added(a: u16, b: u16) -> u16
 }
 
 // The seconds between two numbers; none where the second is the larger.
-fn less(a: u16, b: u16) -> u16
+pub fn less(a: u16, b: u16) -> u16
     ensures { λ r. ⌜ r ≡ a - b ⌝ }
 {
     if a < b { 0 } else { a - b }
@@ -81,7 +81,7 @@ fn run_span(target: u8, m: u8, closed: [bool; 8], table: [u16; 8]) -> u16
 }
 
 // The seconds of an entry of macro m.
-fn span_in(role: Role, m: u8, closed: [bool; 8], table: [u16; 8]) -> u16
+pub fn span_in(role: Role, m: u8, closed: [bool; 8], table: [u16; 8]) -> u16
     ensures { λ r. ⌜ r ≡ spanIn closed table m role ⌝ }
 {
     match role {
@@ -127,17 +127,6 @@ pub(crate) fn lengths_below(store: Store, n: u8) -> [u16; 8]
     let mut table = lengths_below(store, m);
     table[m as usize] = length_by(store, m, table);
     table
-}
-
-// The length of macro m's written-out list in seconds, told up to TOO_LONG.
-pub fn length_in(store: Store, m: u8) -> u16
-    ensures { λ r. ⌜ r ≡ cappedLength store m ⌝ }
-{
-    if (m as usize) < MACROS {
-        length_at(lengths_below(store, m + 1), m)
-    } else {
-        0
-    }
 }
 
 // What covers second k, from 0, of an entry.
@@ -192,14 +181,14 @@ fn entry_in(store: Store, m: u8, k: u16, table: [u16; 8]) -> Handed
     }
 }
 
-// The entry of macro m's written-out list that is due when so many of its seconds are left.
-pub fn next_in(store: Store, m: u8, left: u16) -> Handed
+// The entry of macro m's written-out list that is due when so many of its seconds are left, by the table of all lengths.
+pub(crate) fn next_in(store: Store, m: u8, left: u16, table: [u16; 8]) -> Handed
+    requires { ⌜ table ≡ lengthsTo store 8 ⌝ }
     ensures { λ r. ⌜ handedOf r ≡ entryAt store m (cappedLength store m - left) ⌝ }
 {
     if MACROS <= (m as usize) {
         return Handed::Nothing;
     }
-    let table = lengths_below(store, m + 1);
     let length = length_at(table, m);
     let k = less(length, left);
     if TOO_LONG <= k {

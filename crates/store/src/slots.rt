@@ -1,14 +1,12 @@
-// The slots of the macros. Only `entry_at` and `keep` know where the entries of a macro lie.
-ghost use Prim.Native.Nat.{_<_, _+_, _*_};
+// The slots of the macros, and the small arrays beside them. Only `slot_of` knows where the entries of a macro lie.
+ghost use Prim.Native.Nat.{_<_};
 ghost use mathlib.Core.Path.{_≡_};
-ghost use mathlib.Core.Bool.{true, false, not, _&&_};
+ghost use mathlib.Core.Bool.{true, false};
 ghost use lib.ListN.{getD, set};
-ghost use lib.Dec.{ltb, leb};
-ghost use Rattle.store.specs.Slots.{emptySlot, countOf, kept, bit, marksOf};
+ghost use Rattle.store.specs.Slots.{slotAt, bit, marksOf};
+ghost use Rattle.store.specs.Tally.{hasSlot};
 use super::ENTRIES;
 use super::MACROS;
-use super::Store;
-use wire::Command;
 
 // The entries that a macro has; none for a number that no macro has.
 pub fn count_at(counts: [u8; 8], m: u8) -> u8
@@ -27,7 +25,7 @@ pub fn closed_at(closed: [bool; 8], m: u8) -> bool
 
 // Is there a slot for one more entry of macro m?
 pub fn has_slot(counts: [u8; 8], m: u8) -> bool
-    ensures { λ r. ⌜ r ≡ (ltb m 8 && not (leb 24 (getD counts m 0))) ⌝ }
+    ensures { λ r. ⌜ r ≡ hasSlot counts m ⌝ }
 {
     let at = m as usize;
     if at < MACROS {
@@ -37,14 +35,26 @@ pub fn has_slot(counts: [u8; 8], m: u8) -> bool
     }
 }
 
-// The counts with macro m emptied.
-pub fn emptied(counts: [u8; 8], m: u8) -> [u8; 8]
-    ensures { λ r. ⌜ r ≡ set counts m 0 ⌝ }
+// The counts with another one for macro m.
+pub fn with_count(counts: [u8; 8], m: u8, count: u8) -> [u8; 8]
+    ensures { λ r. ⌜ r ≡ set counts m count ⌝ }
 {
     let mut next = counts;
     let at = m as usize;
     if at < MACROS {
-        next[at] = 0;
+        next[at] = count;
+    }
+    next
+}
+
+// The lengths with another one for macro m.
+pub fn with_length(lengths: [u16; 8], m: u8, length: u16) -> [u16; 8]
+    ensures { λ r. ⌜ r ≡ set lengths m length ⌝ }
+{
+    let mut next = lengths;
+    let at = m as usize;
+    if at < MACROS {
+        next[at] = length;
     }
     next
 }
@@ -61,28 +71,10 @@ pub fn marked(closed: [bool; 8], m: u8) -> [bool; 8]
     next
 }
 
-// The store with one entry more in macro m.
-pub(crate) fn keep(store: Store, m: u8, command: Command) -> Store
-    requires { ⌜ (m < 8) × (countOf store m < 24) ⌝ }
-    ensures { λ r. ⌜ r ≡ kept store m command ⌝ }
-{
-    let at = m as usize;
-    let mut entries = store.entries;
-    let mut counts = store.counts;
-    let count = counts[at];
-    entries[at * ENTRIES + (count as usize)] = command;
-    counts[at] = count + 1;
-    Store {
-        entries,
-        counts,
-        ..store
-    }
-}
-
 // The slot of entry i of macro m. A loop reads its slots itself: handing the store to a reader would copy all of it for each entry.
 pub(crate) fn slot_of(m: usize, i: usize) -> usize
     requires { ⌜ (m < 8) × (i < 24) ⌝ }
-    ensures { λ r. ⌜ r ≡ m * 24 + i ⌝ }
+    ensures { λ r. ⌜ r ≡ slotAt m i ⌝ }
 {
     m * ENTRIES + i
 }

@@ -1,12 +1,12 @@
 // The store's part of a sound state: every macro against its rules, then the running one.
-// The table of lengths is worked out once, so at most 192 entries are visited for it and as many again by their rules.
+// Each entry is visited once; the table of lengths comes from the caller.
 ghost use Prim.Native.Nat.{_<_};
 ghost use mathlib.Core.Path.{_≡_};
 ghost use mathlib.Core.Bool.{false, _&&_, _||_};
 ghost use lib.ListN.{getD};
 ghost use lib.Dec.{leb, eqb};
 ghost use Rattle.wire.specs.Judge.{judgeCode};
-ghost use Rattle.store.specs.WrittenOut.{cappedLength};
+ghost use Rattle.store.specs.WrittenOut.{cappedLength, lengthsTo};
 ghost use Rattle.store.specs.Fits.{runFits, entryFits};
 ghost use Rattle.store.specs.Sound.{entriesHold, macroHolds, storeSound};
 use super::ENTRIES;
@@ -16,7 +16,6 @@ use super::NONE;
 use super::Store;
 use super::lookup::filled;
 use super::lookup::length_at;
-use super::lookup::lengths_below;
 use super::roles::Role;
 use super::roles::is_run;
 use super::roles::number_of;
@@ -143,10 +142,11 @@ fn running_holds(running: u8, left: u16, closed: [bool; 8], table: [u16; 8]) -> 
     left <= length_at(table, running)
 }
 
-pub fn holds(store: Store) -> bool
+// The whole store, by the table of its lengths.
+pub(crate) fn holds(store: Store, table: [u16; 8]) -> bool
+    requires { ⌜ table ≡ lengthsTo store 8 ⌝ }
     ensures { λ r. ⌜ r ≡ storeSound store ⌝ }
 {
-    let table = lengths_below(store, MACROS as u8);
     let closed = store.closed;
     let mut m: u8 = 0;
     while (m as usize) < MACROS {

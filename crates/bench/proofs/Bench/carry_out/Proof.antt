@@ -1,54 +1,41 @@
--- `Bench::carry_out` meets its contract: 27, else what `judge` refuses, else what the store says.
+-- `Bench::carry_out` meets its contract: 27, else what the tally orders.
 use borrow.Author.Needs.{needs}
-use mathlib.Core.Path.{sym, _∙_}
+use mathlib.Core.Path.{ap, _∙_}
 use borrow.Author.Tests.{not-true, not-false}
-use Rattle.bench.proofs.Outcomes.{unsound, judged-refused, judged-passed}
+use Rattle.bench.specs.Order.{carriedBy}
+use Rattle.bench.proofs.Outcomes.{unsound}
+use Rattle.bench.proofs.ByTally.{carried-by}
+use Rattle.bench.proofs.Shapes.{survey-unsound, survey-good, survey-tallied}
 use Rattle.bench.proofs.Bench.carry_out.Statement.{statement}
 use Rattle.bench.proofs.Bench.carry_out.Tie as tie
 
-is-sound-requires : tie.Need-is-sound-requires
-is-sound-requires c κs = search needs
+survey-requires : tie.Need-survey-requires
+survey-requires c κs = search needs
 
 returns : tie.Need-returns
 returns c =
-    let start = c .before .before .args in
-    unsound (start .self) (start .command) (sym (c .before .is-sound .ensures) ∙ not-true _ (c .if1 .taken))
+    let survey = c .before .before in
+    let start = survey .before in
+    unsound (start .args .self) (start .args .command)
+    (survey-unsound (start .args .self) (start .good .0) (survey .survey .result) (survey .survey .ensures) (not-true _ (c .if1 .taken)))
 
-judge-requires : tie.Need-judge-requires
-judge-requires c κs = search needs
+order-by-requires : tie.Need-order-by-requires
+order-by-requires c κs = search needs
 
-enum-known-refusal : tie.Need-enum-known-refusal
-enum-known-refusal c = search needs
-
-enum-told : tie.Need-enum-told
-enum-told c = search needs
-
-permit-requires : tie.Need-permit-requires
-permit-requires c κs = search needs
+carried-requires : tie.Need-carried-requires
+carried-requires c κs = search needs
 
 returns-2 : tie.Need-returns-2
 returns-2 c =
-    let start = c .before .before .before .before .before .before .args in
-    let sound = sym (c .before .before .before .before .before .is-sound .ensures) ∙ not-false _ (c .before .before .before .before .if1 .left) in
-    judged-refused (start .self) (start .command) (c .before .refusal .given .0 .0) sound
-    (rw (c .before .refusal .given .1) at (c .before .before .before .judge .ensures))
-
-returns-3 : tie.Need-returns-3
-returns-3 c =
-    let start = c .before .before .before .before .before .before .args in
-    let sound = sym (c .before .before .before .before .before .is-sound .ensures) ∙ not-false _ (c .before .before .before .before .if1 .left) in
-    c .permit .ensures
-    ∙ judged-passed (start .self) (start .command) sound (rw (c .before .enum-told .given .1) at (c .before .before .before .judge .ensures))
+    let sound = c .before .before .before in
+    let survey = sound .before .before in
+    let start = survey .before in
+    let b = start .args .self in
+    let found = survey .survey .result in
+    let good = survey-good b (start .good .0) found (survey .survey .ensures) (not-false _ (sound .if1 .left)) in
+    c .carried .ensures
+    ∙ ap (carriedBy b (found .tally)) (c .before .order-by .ensures)
+    ∙ carried-by b (found .tally) good (survey-tallied b (start .good .0) found (survey .survey .ensures)) (start .args .command)
 
 pub carry-out-spec : {M : Type 1} → statement M
-carry-out-spec =
-    tie.close
-    (tie.spec
-    is-sound-requires
-    returns
-    judge-requires
-    enum-known-refusal
-    enum-told
-    permit-requires
-    returns-2
-    returns-3)
+carry-out-spec = tie.close (tie.spec survey-requires returns order-by-requires carried-requires returns-2)

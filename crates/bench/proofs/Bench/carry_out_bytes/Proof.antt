@@ -1,27 +1,41 @@
--- `Bench::carry_out_bytes` meets its contract: 27, else what `take` says.
+-- `Bench::carry_out_bytes` meets its contract: 27, else what the tally orders.
 use borrow.Author.Needs.{needs}
-use mathlib.Core.Path.{sym, _∙_}
+use mathlib.Core.Path.{ap, _∙_}
 use borrow.Author.Tests.{not-true, not-false}
-use Rattle.bench.proofs.Outcomes.{unsound-bytes, sound-bytes}
+use Rattle.bench.specs.Order.{carriedBy}
+use Rattle.bench.proofs.Outcomes.{unsound-bytes}
+use Rattle.bench.proofs.ByTally.{carried-bytes-by}
+use Rattle.bench.proofs.Shapes.{survey-unsound, survey-good, survey-tallied}
 use Rattle.bench.proofs.Bench.carry_out_bytes.Statement.{statement}
 use Rattle.bench.proofs.Bench.carry_out_bytes.Tie as tie
 
-is-sound-requires : tie.Need-is-sound-requires
-is-sound-requires c κs = search needs
+survey-requires : tie.Need-survey-requires
+survey-requires c κs = search needs
 
 returns : tie.Need-returns
 returns c =
-    let start = c .before .before .before .args in
-    unsound-bytes (start .self) (start .bytes .now) (sym (c .before .is-sound .ensures) ∙ not-true _ (c .if1 .taken))
+    let survey = c .before .before in
+    let start = survey .before .before in
+    unsound-bytes (start .args .self) (start .args .bytes .now)
+    (survey-unsound (start .args .self) (start .good .0) (survey .survey .result) (survey .survey .ensures) (not-true _ (c .if1 .taken)))
 
-take-requires : tie.Need-take-requires
-take-requires c κs = search needs
+order-in-requires : tie.Need-order-in-requires
+order-in-requires c κs = search needs
+
+carried-requires : tie.Need-carried-requires
+carried-requires c κs = search needs
 
 returns-2 : tie.Need-returns-2
 returns-2 c =
-    let start = c .before .before .before .before .args in
-    let sound = sym (c .before .before .is-sound .ensures) ∙ not-false _ (c .before .if1 .left) in
-    c .take .ensures ∙ sound-bytes (start .self) (start .bytes .now) sound
+    let sound = c .before .before .before in
+    let survey = sound .before .before in
+    let start = survey .before .before in
+    let b = start .args .self in
+    let found = survey .survey .result in
+    let good = survey-good b (start .good .0) found (survey .survey .ensures) (not-false _ (sound .if1 .left)) in
+    c .carried .ensures
+    ∙ ap (carriedBy b (found .tally)) (c .before .order-in .ensures)
+    ∙ carried-bytes-by b (found .tally) good (survey-tallied b (start .good .0) found (survey .survey .ensures)) (start .args .bytes .now)
 
 pub carry-out-bytes-spec : {M : Type 1} → statement M
-carry-out-bytes-spec = tie.close (tie.spec is-sound-requires returns take-requires returns-2)
+carry-out-bytes-spec = tie.close (tie.spec survey-requires returns order-in-requires carried-requires returns-2)

@@ -1,16 +1,19 @@
 -- `Bench::run` meets its contract: at each refusal the tests passed on the way say which code is due, and a run that is carried out is the kit's list
 -- and then the pupil's (`TwoLists`).
 use Prim.Native.Nat.{_+_, _*_, _≤_}
-use mathlib.Core.Path.{_≡_, refl}
+use mathlib.Core.Path.{_≡_, refl, ap, _∙_}
 use native.Mathlib.Omega.{arith}
 use lib.ListN.{length}
 use borrow.Author.Needs.{needs}
-use borrow.Author.Tests.{lt-ltb, le-ltb}
+use borrow.Author.Tests.{lt-ltb, le-ltb, not-true, not-false}
 use Rattle.walk.specs.Walk.{rests}
 use Rattle.walk.proofs.Rests.{records-fit}
 use Rattle.bench.specs.declared.running.Begun.{Begun}
+use Rattle.bench.specs.Status.{benchSound}
 use Rattle.bench.specs.Run.{runCode}
-use Rattle.bench.proofs.TwoLists.{refused-run, rest-fits, part-fits, run-done}
+use Rattle.bench.proofs.Sound.{GoodBench}
+use Rattle.bench.proofs.Shapes.{survey-unsound, survey-good, survey-tallied}
+use Rattle.bench.proofs.TwoLists.{list-keeps, refused-run, rest-fits, part-fits, run-done}
 use Rattle.bench.proofs.Bench.run.Statement.{statement}
 use Rattle.bench.proofs.Bench.run.Tie as tie
 
@@ -48,8 +51,12 @@ returns-3 c =
       lt-ltb (length (args .room .now)) 8192 (c .before .if3 .taken),
     ))
 
-is-sound-requires : tie.Need-is-sound-requires
-is-sound-requires c κs = search needs
+survey-requires : tie.Need-survey-requires
+survey-requires c κs = search needs
+
+-- The start of the run, from the survey.
+abbrev entry : tie.After-survey → tie.Start
+entry c = c .before .before .before .before .before .before .before
 
 refused-requires-4 : tie.Need-refused-requires-4
 refused-requires-4 c κs = search needs
@@ -57,39 +64,51 @@ refused-requires-4 c κs = search needs
 returns-4 : tie.Need-returns-4
 unfolding runCode
 returns-4 c =
-    let args = c .before .before .before .before .before .before .before .before .before .args in
+    let surveyed = c .before .before .before in
+    let args = entry surveyed .args in
     refused-run (args .self) (args .kit .now) (args .pupil .now) (args .room .now) Begun.Unsound (c .refused4 .result) (c .refused4 .ensures) refl
     (rw (
-      le-ltb 4096 (length (args .kit .now)) (c .before .before .before .before .before .if1 .left),
-      le-ltb 4096 (length (args .pupil .now)) (c .before .before .before .before .if2 .left),
-      le-ltb (length (args .room .now)) 8192 (c .before .before .before .if3 .left),
-      ← c .before .before .is-sound .ensures,
-      c .before .if4 .taken,
+      le-ltb 4096 (length (args .kit .now)) (surveyed .before .before .before .if1 .left),
+      le-ltb 4096 (length (args .pupil .now)) (surveyed .before .before .if2 .left),
+      le-ltb (length (args .room .now)) 8192 (surveyed .before .if3 .left),
+      survey-unsound (args .self) (entry surveyed .good .0) (surveyed .survey .result) (surveyed .survey .ensures) (not-true _ (c .before .if4 .taken)),
     ))
 
--- No check is due.
-passed : (c : tie.Else4) → (let args = c .before .before .before .before .before .before .before .before .args in
-    runCode (args .self) (args .kit .now) (args .pupil .now) (args .room .now) ≡ 0)
+-- The survey found the bench sound,
+good : (c : tie.Else4) → GoodBench (entry (c .before .before) .args .self)
+good c =
+    let surveyed = c .before .before in
+    survey-good (entry surveyed .args .self) (entry surveyed .good .0) (surveyed .survey .result) (surveyed .survey .ensures) (not-false _ (c .if4 .left))
+
+-- so no check is due,
+passed : (c : tie.Else4) → (let args = entry (c .before .before) .args in runCode (args .self) (args .kit .now) (args .pupil .now) (args .room .now) ≡ 0)
 unfolding runCode
 passed c =
-    let args = c .before .before .before .before .before .before .before .before .args in
+    let surveyed = c .before .before in
+    let args = entry surveyed .args in
     rw (
-      le-ltb 4096 (length (args .kit .now)) (c .before .before .before .before .if1 .left),
-      le-ltb 4096 (length (args .pupil .now)) (c .before .before .before .if2 .left),
-      le-ltb (length (args .room .now)) 8192 (c .before .before .if3 .left),
-      ← c .before .is-sound .ensures,
-      c .if4 .left,
+      le-ltb 4096 (length (args .kit .now)) (surveyed .before .before .before .if1 .left),
+      le-ltb 4096 (length (args .pupil .now)) (surveyed .before .before .if2 .left),
+      le-ltb (length (args .room .now)) 8192 (surveyed .before .if3 .left),
+      good c .sound,
     )
 
--- So the records have room.
-fits : (c : tie.Else4) → (let args = c .before .before .before .before .before .before .before .before .args in
+-- and the records have room.
+fits : (c : tie.Else4) → (let args = entry (c .before .before) .args in
     (length (rests (args .kit .now)) + length (rests (args .pupil .now))) * 8 ≤ length (args .room .now))
 fits c =
-    let args = c .before .before .before .before .before .before .before .before .args in
-    omega (arith, records-fit (args .kit .now) (args .pupil .now) (c .before .before .before .before .if1 .left) (c .before .before .before .if2 .left))
+    let surveyed = c .before .before in
+    let args = entry surveyed .args in
+    omega (arith, records-fit (args .kit .now) (args .pupil .now) (surveyed .before .before .before .if1 .left) (surveyed .before .before .if2 .left))
 
 run-list-requires : tie.Need-run-list-requires
-run-list-requires c κs = (c .before .before .before .before .before .if1 .left, omega (arith, fits (c .before)))
+run-list-requires c κs =
+    let checked = c .before .before in
+    let surveyed = checked .before .before in
+    let begin = entry surveyed in (
+      (surveyed .before .before .before .if1 .left, omega (arith, fits checked)),
+      (good checked .sound, survey-tallied (begin .args .self) (begin .good .0) (surveyed .survey .result) (surveyed .survey .ensures)),
+    )
 
 cast-end : tie.Need-cast-end
 cast-end c = search needs
@@ -99,31 +118,35 @@ mul-end c = search needs
 
 -- The pupil's records have room behind the kit's.
 left-fits : (c : tie.After-run-list)
-    → (c .run-list .result .count + length (rests (c .before .before .before .before .before .before .before .before .before .before .args .pupil .now))) * 8
-    ≤ length (c .run-list .last .1 .1 .1 .0)
+    → (c .run-list .result .count + length (rests (entry (c .before .before .before .before .before) .args .pupil .now))) * 8
+    ≤ length (c .run-list .last .1 .1 .1 .1 .0)
 left-fits c =
-    let args = c .before .before .before .before .before .before .before .before .before .before .args in
-    let first = c .run-list in
-    rest-fits (args .self) (args .kit .now) (args .pupil .now) (args .room .now) (fits (c .before .before)) (first .result .count) (first .result .bench)
-    (first .last .1 .1 .1 .0) (first .ensures .0 .1) (first .ensures .0 .0) (first .ensures .1)
+    let checked = c .before .before .before in
+    let args = entry (checked .before .before) .args in
+    let first = c .run-list .ensures in
+    rest-fits (args .self) (args .kit .now) (args .pupil .now) (args .room .now) (fits checked) (first .0 .1) (first .0 .0) (first .1 .1)
 
 sub-run-list : tie.Need-sub-run-list
-sub-run-list c = omega (arith, left-fits (c .before .before .before .before))
+sub-run-list c = omega (arith, left-fits (c .before .before .before .before .before))
 
 part-run-list-start : tie.Need-part-run-list-start
-part-run-list-start c = omega (arith, left-fits (c .before .before .before .before))
+part-run-list-start c = omega (arith, left-fits (c .before .before .before .before .before))
 
 part-run-list-end : tie.Need-part-run-list-end
 part-run-list-end c = search needs
 
 run-list-requires-2 : tie.Need-run-list-requires-2
 run-list-requires-2 c κs =
-    let ran = c .before .before .before .before .before in
-    let first = ran .run-list in
-    let args = ran .before .before .before .before .before .before .before .before .before .before .args in (
-      ran .before .before .before .before .before .if2 .left,
-      part-fits (args .self) (args .kit .now) (args .pupil .now) (args .room .now) (fits (ran .before .before)) (first .result .count)
-          (first .result .bench) (first .last .1 .1 .1 .0) (first .ensures .0 .1) (first .ensures .0 .0) (first .ensures .1),
+    let ran = c .before .before .before .before .before .before in
+    let first = ran .run-list .ensures in
+    let checked = ran .before .before .before in
+    let surveyed = checked .before .before in
+    let args = entry surveyed .args in (
+      (
+        surveyed .before .before .if2 .left,
+        part-fits (args .self) (args .kit .now) (args .pupil .now) (args .room .now) (fits checked) (first .0 .1) (first .0 .0) (first .1 .1),
+      ),
+      (ap benchSound (first .0 .0) ∙ list-keeps (args .self) (good checked) 1 1 (rests (args .kit .now)) .sound, first .1 .0),
     )
 
 same-length : tie.Need-same-length
@@ -131,13 +154,14 @@ same-length c = search needs
 
 returns-5 : tie.Need-returns-5
 returns-5 c =
-    let second = c .before .before .before in
-    let first = second .before .before .before .before .before .before in
-    let args = first .before .before .before .before .before .before .before .before .before .before .args in
-    run-done (args .self) (args .kit .now) (args .pupil .now) (args .room .now) (fits (first .before .before)) (first .run-list .result .count)
-    (first .run-list .result .bench) (first .run-list .last .1 .1 .1 .0) (first .run-list .ensures .0 .1) (first .run-list .ensures .0 .0)
-    (first .run-list .ensures .1) (second .run-list2 .result .count) (second .run-list2 .result .bench) (second .run-list2 .last .1 .1 .1 .0)
-    (second .run-list2 .ensures .0 .1) (second .run-list2 .ensures .0 .0) (second .run-list2 .ensures .1) (passed (first .before .before))
+    let ran = c .before .before .before in
+    let ran-first = ran .before .before .before .before .before .before .before in
+    let first = ran-first .run-list .ensures in
+    let second = ran .run-list2 .ensures in
+    let checked = ran-first .before .before .before in
+    let args = entry (checked .before .before) .args in
+    run-done (args .self) (args .kit .now) (args .pupil .now) (args .room .now) (fits checked) (first .0 .1) (first .0 .0) (first .1 .1)
+    (second .0 .1) (second .0 .0) (second .1 .1) (passed checked)
 
 pub run-spec : {M : Type 1} → statement M
 run-spec =
@@ -149,7 +173,7 @@ run-spec =
     returns-2
     refused-requires-3
     returns-3
-    is-sound-requires
+    survey-requires
     refused-requires-4
     returns-4
     run-list-requires

@@ -1,19 +1,36 @@
--- `Bench::second` meets its contract: 27, else the series and then what the store hands over.
+-- `Bench::second` meets its contract: 27 by the rules outside the store or by the store itself, else the series and then what the store hands over.
 use borrow.Author.Needs.{needs}
 use mathlib.Core.Path.{sym, _∙_}
 use borrow.Author.Tests.{not-true, not-false}
-use Rattle.bench.proofs.Judging.{no-second, second-passed}
+use Rattle.bench.proofs.Judging.{no-rules, no-second, no-step, second-passed}
 use Rattle.bench.proofs.Bench.second.Statement.{statement}
 use Rattle.bench.proofs.Bench.second.Tie as tie
 
-is-sound-requires : tie.Need-is-sound-requires
-is-sound-requires c κs = search needs
+obeys-requires : tie.Need-obeys-requires
+obeys-requires c κs = search needs
+
+stayed-requires : tie.Need-stayed-requires
+stayed-requires c κs = search needs
 
 returns : tie.Need-returns
-returns c = no-second (c .before .before .args .self) (sym (c .before .is-sound .ensures) ∙ not-true _ (c .if1 .taken))
+returns c =
+    let obeys = c .before .before in
+    let b = obeys .before .args .self in
+    c .stayed .ensures ∙ no-second b (no-rules b (sym (obeys .obeys .ensures) ∙ not-true _ (c .before .if1 .taken)))
 
 second-requires : tie.Need-second-requires
 second-requires c κs = search needs
+
+stayed-requires-2 : tie.Need-stayed-requires-2
+stayed-requires-2 c κs = search needs
+
+returns-2 : tie.Need-returns-2
+returns-2 c =
+    let step = c .before .before .before in
+    let rules = step .before .before in
+    c .stayed2 .ensures
+    ∙ no-step (rules .before .before .args .self) (step .second .result) (sym (rules .before .obeys .ensures) ∙ not-false _ (rules .if1 .left))
+    (step .second .ensures) (not-true _ (c .before .if2 .taken))
 
 second-requires-2 : tie.Need-second-requires-2
 second-requires-2 c κs = search needs
@@ -21,21 +38,26 @@ second-requires-2 c κs = search needs
 executed-handed-requires : tie.Need-executed-handed-requires
 executed-handed-requires c κs = search needs
 
-returns-2 : tie.Need-returns-2
-returns-2 c =
-    let b = c .before .before .before .before .before .before .before .before .args .self in
-    let sound = sym (c .before .before .before .before .before .before .before .is-sound .ensures)
-    ∙ not-false _ (c .before .before .before .before .before .before .if1 .left) in
-    second-passed b (c .before .before .before .before .second .result) (c .before .second2 .result) (c .executed-handed .result) sound
-    (c .before .before .before .before .second .ensures) (c .before .second2 .ensures) (c .executed-handed .ensures)
+returns-3 : tie.Need-returns-3
+returns-3 c =
+    let handed = c .before .before .before in
+    let sound = handed .before .before .before in
+    let step = sound .before .before in
+    let rules = step .before .before in
+    second-passed (rules .before .before .args .self) (step .second .result) (sym (rules .before .obeys .ensures) ∙ not-false _ (rules .if1 .left))
+    (step .second .ensures) (handed .before .second2 .result) (handed .executed-handed .result) (not-false _ (sound .if2 .left))
+    (handed .before .second2 .ensures) (handed .executed-handed .ensures)
 
 pub second-spec : {M : Type 1} → statement M
 second-spec =
     tie.close
     (tie.spec
-    is-sound-requires
+    obeys-requires
+    stayed-requires
     returns
     second-requires
+    stayed-requires-2
+    returns-2
     second-requires-2
     executed-handed-requires
-    returns-2)
+    returns-3)

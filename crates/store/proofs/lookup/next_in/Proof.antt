@@ -1,10 +1,10 @@
 -- `store::lookup::next_in` meets its contract: the second that is due is the length less the seconds left, and past the first 601 there is none.
-use Prim.Native.Nat.{_+_, _-_}
+use Prim.Native.Nat.{_-_}
 use mathlib.Core.Path.{_≡_, ap, _∙_}
 use native.Mathlib.Omega.{arith}
 use borrow.Author.Needs.{needs}
 use Rattle.store.specs.WrittenOut.{cappedLength, entryAt}
-use Rattle.store.proofs.Lengths.{lengths-tell, length-in-table}
+use Rattle.store.proofs.Lengths.{all-told}
 use Rattle.store.proofs.Covers.{entry-past, entry-within, entry-none}
 use Rattle.store.proofs.lookup.next_in.Statement.{statement}
 use Rattle.store.proofs.lookup.next_in.Tie as tie
@@ -14,12 +14,6 @@ returns c =
     let args = c .before .args in
     entry-none (args .store) (args .m) _ (search needs) (omega arith)
 
-add-lengths-below : tie.Need-add-lengths-below
-add-lengths-below c = search needs
-
-lengths-below-requires : tie.Need-lengths-below-requires
-lengths-below-requires c κs = search needs
-
 length-at-requires : tie.Need-length-at-requires
 length-at-requires c κs = search needs
 
@@ -28,32 +22,31 @@ less-requires c κs = search needs
 
 -- The second that is due, as the code works it out.
 due : (c : tie.After-less)
-    → let args = c .before .before .before .before .args in
+    → let args = c .before .before .before .args in
     c .less .result ≡ cappedLength (args .store) (args .m) - args .left
 due c =
-    let args = c .before .before .before .before .args in
-    let table = c .before .before .lengths-below in
-    let tells = length-in-table (args .store) (args .m) (table .result) (omega arith) (table .ensures) in
+    let start = c .before .before .before in
+    let args = start .args in
+    let tells = all-told (args .store) (args .table) (start .pre) (args .m) (omega arith) in
     c .less .ensures ∙ ap (λ n. n - args .left) (c .before .length-at .ensures ∙ tells)
 
 returns-2 : tie.Need-returns-2
 returns-2 c =
-    let args = c .before .before .before .before .before .args in
+    let args = c .before .before .before .before .args in
     entry-past (args .store) (args .m) _ (omega (arith, due (c .before)))
 
 entry-in-requires : tie.Need-entry-in-requires
 entry-in-requires c κs =
-    let args = c .before .before .before .before .before .args in
-    let table = c .before .before .before .lengths-below in
+    let start = c .before .before .before .before in
     record {
       number = omega arith;
       within = omega arith;
-      told = λ j below. rw (table .ensures) (lengths-tell (args .store) (args .m + 1) (omega arith) j (omega arith));
+      told = λ j below. all-told (start .args .store) (start .args .table) (start .pre) j (omega arith);
     }
 
 returns-3 : tie.Need-returns-3
 returns-3 c =
-    let args = c .before .before .before .before .before .before .args in
+    let args = c .before .before .before .before .before .args in
     let second = due (c .before .before) in
     c .entry-in .ensures ∙ entry-within (args .store) (args .m) _ (omega arith) ∙ ap (λ k. entryAt (args .store) (args .m) k) second
 
@@ -62,8 +55,6 @@ next-in-spec =
     tie.close
     (tie.spec
     returns
-    add-lengths-below
-    lengths-below-requires
     length-at-requires
     less-requires
     returns-2

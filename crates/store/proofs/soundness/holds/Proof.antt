@@ -11,7 +11,7 @@ use borrow.Author.Tests.{not-true, not-false}
 use Rattle.store.specs.declared.Store.{Store}
 use Rattle.store.specs.Lookup.{TellsBelow}
 use Rattle.store.specs.Sound.{allBelow, macroHolds, storeSound}
-use Rattle.store.proofs.Lengths.{lengths-tell}
+use Rattle.store.proofs.Lengths.{all-told}
 use Rattle.store.proofs.SoundLaws.{below-start, below-on, below-fail, running-told}
 use Rattle.store.proofs.soundness.holds.Statement.{statement}
 use Rattle.store.proofs.soundness.holds.Tie as tie
@@ -29,20 +29,14 @@ Inv-loop store table closed m₀ m = Held store table m
 abbrev μ-loop : tie.MeasureT-loop
 μ-loop store table closed m₀ m = 8 - m
 
-cast-lengths-below : tie.Need-cast-lengths-below Inv-loop μ-loop
-cast-lengths-below c = search needs
-
-lengths-below-requires : tie.Need-lengths-below-requires Inv-loop μ-loop
-lengths-below-requires c κs = search needs
-
 loop-holds : tie.Need-loop-holds Inv-loop μ-loop
 loop-holds c =
-    let store = c .before .before .args .store in
+    let args = c .before .args in
     record {
       marks = search needs;
-      tells = λ j h. rw (c .before .lengths-below .ensures) (lengths-tell store 8 (omega arith) j h);
+      tells = all-told (args .store) (args .table) (c .before .pre);
       within = omega arith;
-      held = below-start (macroHolds store);
+      held = below-start (macroHolds (args .store));
     }
 
 cast-loop : tie.Need-cast-loop Inv-loop μ-loop
@@ -54,7 +48,7 @@ macro-holds-requires c κs = (omega arith, c .before .loop .inv .tells (c .befor
 returns : tie.Need-returns Inv-loop μ-loop
 unfolding storeSound
 returns c =
-    let store = c .before .before .before .before .before .before .args .store in
+    let store = c .before .before .before .before .before .args .store in
     let at = c .before .before .before .loop in
     let judged = c .before .macro-holds in
     rw (below-fail (macroHolds store) 8 (at .m) (omega arith) (sym (judged .ensures) ∙ not-true (judged .result) (c .if1 .taken)))
@@ -67,7 +61,7 @@ loop-less c = search needs
 
 loop-again : tie.Need-loop-again Inv-loop μ-loop
 loop-again c =
-    let store = c .before .before .before .before .before .before .args .store in
+    let store = c .before .before .before .before .before .args .store in
     let at = c .before .before .before .loop in
     let judged = c .before .macro-holds in
     record {
@@ -83,12 +77,11 @@ running-holds-requires c κs = search needs
 returns-2 : tie.Need-returns-2 Inv-loop μ-loop
 unfolding storeSound
 returns-2 c =
-    let store = c .before .before .before .before .before .args .store in
-    let table = c .before .before .before .before .lengths-below .result in
+    let args = c .before .before .before .before .args in
     let at = c .before .before .loop in
     let end : at .m ≡ 8 = omega arith in
-    let all : allBelow 8 (macroHolds store) ≡ true = rw end at (at .inv .held) in
-    c .running-holds .ensures ∙ running-told store table (at .inv .marks) (at .inv .tells) all ∙ rw all
+    let all : allBelow 8 (macroHolds (args .store)) ≡ true = rw end at (at .inv .held) in
+    c .running-holds .ensures ∙ running-told (args .store) (args .table) (at .inv .marks) (at .inv .tells) all ∙ rw all
 
 pub holds-spec : {M : Type 1} → statement M
 holds-spec =
@@ -96,8 +89,6 @@ holds-spec =
     (tie.spec
     Inv-loop
     μ-loop
-    cast-lengths-below
-    lengths-below-requires
     loop-holds
     cast-loop
     macro-holds-requires

@@ -1,0 +1,47 @@
+-- `orders::order_by` meets its contract: what `judge` refuses is inert, else what the tally says.
+use borrow.Author.Needs.{needs}
+use mathlib.Core.Path.{ap, _∙_}
+use Rattle.bench.specs.Order.{orderOf}
+use Rattle.bench.proofs.Ordering.{judged-refused, judged-passed}
+use Rattle.bench.proofs.orders.order_by.Statement.{statement}
+use Rattle.bench.proofs.orders.order_by.Tie as tie
+
+judge-requires : tie.Need-judge-requires
+judge-requires c κs = search needs
+
+enum-known-refusal : tie.Need-enum-known-refusal
+enum-known-refusal c = search needs
+
+refused-requires : tie.Need-refused-requires
+refused-requires c κs = search needs
+
+enum-told : tie.Need-enum-told
+enum-told c = search needs
+
+permitted-requires : tie.Need-permitted-requires
+permitted-requires c κs = search needs
+
+returns : tie.Need-returns
+returns c =
+    let told = c .before .before .before .before in
+    let start = told .before .args in
+    let refusal = c .before .before .refusal .given in
+    ap orderOf (c .refused .ensures) ∙ judged-refused (start .tally) (start .command) (refusal .0 .0) (rw (refusal .1) at (told .judge .ensures))
+
+returns-2 : tie.Need-returns-2
+returns-2 c =
+    let told = c .before .before .before in
+    let start = told .before .args in
+    c .permitted .ensures ∙ judged-passed (start .tally) (start .command) (rw (c .before .enum-told .given .1) at (told .judge .ensures))
+
+pub order-by-spec : {M : Type 1} → statement M
+order-by-spec =
+    tie.close
+    (tie.spec
+    judge-requires
+    enum-known-refusal
+    refused-requires
+    enum-told
+    permitted-requires
+    returns
+    returns-2)

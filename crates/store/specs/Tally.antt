@@ -1,0 +1,94 @@
+-- A tally: the store without its entries, and how long each macro is. It is all that rows 11 to 19 ask, so the commands of a list are judged and take
+-- effect by it, and only a new entry's own slot is touched.
+use Prim.Native.Nat.{ℕ, _+_, min}
+use mathlib.Core.Path.{_≡_}
+use mathlib.Core.Logic.{_⊎_}
+use mathlib.Core.List.{List}
+use mathlib.Core.Bool.{Bool, true, false, cond, not, _&&_}
+use lib.ListN.{length, getD, set, replicate}
+use lib.Dec.{leb, ltb}
+use Rattle.wire.specs.declared.kinds.Command.{Command}
+use Rattle.wire.specs.Codes.{Check, firstOf}
+use Rattle.store.specs.declared.Store.{Store}
+use Rattle.store.specs.declared.roles.Role.{Role}
+use Rattle.store.specs.declared.tally.Tally.{Tally}
+use Rattle.store.specs.declared.tally.Survey.{Survey}
+use Rattle.store.specs.Roles.{roleOf}
+use Rattle.store.specs.Slots.{isClosed, slotAt}
+use Rattle.store.specs.WrittenOut.{cappedLength, lengthsTo}
+use Rattle.store.specs.Lookup.{spanIn}
+use Rattle.store.specs.Checks.{rowsFor}
+use Rattle.store.specs.Effects.{storeWith}
+use Rattle.store.specs.Sound.{storeSound}
+
+abbrev pub tallyWith : List ℕ → List Bool → List ℕ → ℕ → ℕ → ℕ → Tally
+tallyWith counts closed lengths opened running left =
+    record { counts = counts; closed = closed; lengths = lengths; opened = opened; running = running; left = left }
+
+-- The tally of a store, and a store from its entries and its tally.
+abbrev pub tallyOf : Store → Tally
+tallyOf s = tallyWith (s .counts) (s .closed) (lengthsTo s 8) (s .opened) (s .running) (s .left)
+
+abbrev pub storeOf : List Command → Tally → Store
+storeOf entries t = storeWith entries (t .counts) (t .closed) (t .opened) (t .running) (t .left)
+
+-- What a survey of a store finds.
+abbrev pub surveyOf : Store → Survey
+surveyOf s = record { sound = storeSound s; tally = tallyOf s }
+
+-- How many entries the open macro has, and how long it is so far.
+abbrev pub openCount : Tally → ℕ
+openCount t = getD (t .counts) (t .opened) 0
+
+abbrev pub openLength : Tally → ℕ
+openLength t = getD (t .lengths) (t .opened) 0
+
+-- Rows 11 to 19, by a tally.
+abbrev pub tallyChecks : Tally → Command → List Check
+tallyChecks t c = rowsFor (c .flag) (roleOf (c .kind)) (t .opened) (t .closed) (openCount t) (openLength t) (t .running)
+
+unfoldable pub tallyCode : Tally → Command → ℕ
+tallyCode t c = firstOf (tallyChecks t c)
+
+-- Is there a slot for one more entry of macro m? Where the open macro has one, this is it; any number stands for it elsewhere.
+abbrev pub hasSlot : List ℕ → ℕ → Bool
+hasSlot counts m = ltb m 8 && not (leb 24 (getD counts m 0))
+
+abbrev pub nextSlot : Tally → ℕ
+nextSlot t = cond (hasSlot (t .counts) (t .opened)) (slotAt (t .opened) (openCount t)) 0
+
+-- One entry more of the open macro, which is longer by that entry's seconds.
+abbrev pub appendedBy : Tally → Role → Tally
+appendedBy t role =
+    cond (hasSlot (t .counts) (t .opened))
+    (tallyWith
+    (set (t .counts) (t .opened) (openCount t + 1))
+    (t .closed)
+    (set (t .lengths) (t .opened) (min 601 (openLength t + spanIn (t .closed) (t .lengths) (t .opened) role)))
+    (t .opened)
+    (t .running)
+    (t .left))
+    t
+
+-- An executed command: plain ones are not the store's.
+abbrev pub executedBy : Tally → Role → Tally
+executedBy t Role.Plain = t
+executedBy t (Role.Open m) = tallyWith (set (t .counts) m 0) (t .closed) (set (t .lengths) m 0) m (t .running) (t .left)
+executedBy t Role.Close = tallyWith (t .counts) (set (t .closed) (t .opened) true) (t .lengths) 255 (t .running) (t .left)
+executedBy t (Role.Run m) = tallyWith (t .counts) (t .closed) (t .lengths) (t .opened) m (getD (t .lengths) m 0)
+executedBy t (Role.Wait n) = t
+executedBy t Role.Stop = tallyWith (t .counts) (t .closed) (t .lengths) (t .opened) 255 0
+executedBy t Role.Clear = tallyWith (replicate 8 0) (replicate 8 false) (t .lengths) 255 (t .running) (t .left)
+
+-- The tally and the entries after an accepted command.
+unfoldable pub tallyAfter : Tally → Command → Tally
+tallyAfter t c = cond (c .flag) (appendedBy t (roleOf (c .kind))) (executedBy t (roleOf (c .kind)))
+
+abbrev pub entriesAfter : List Command → Tally → Command → List Command
+entriesAfter entries t c = cond (c .flag) (set entries (nextSlot t) c) entries
+
+-- A tally that is true of a store: its numbers and marks, and the length of each macro that is closed or open.
+pub record Tallied (s : Store) (t : Tally) : Type 0 where
+  pub same : storeOf (s .entries) t ≡ s
+  pub eight : length (t .lengths) ≡ 8
+  pub lengths : (m : ℕ) → (isClosed s m ≡ true) ⊎ (m ≡ s .opened) → getD (t .lengths) m 0 ≡ cappedLength s m

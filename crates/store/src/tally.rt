@@ -1,0 +1,175 @@
+// A tally: the store without its entries, and how long each macro is. It is all that codes 11 to 19 ask, so a run of lists judges and carries out its
+// commands by a tally, and copies no slots.
+ghost use Prim.Native.Nat.{_<_};
+ghost use mathlib.Core.Path.{_≡_};
+ghost use Rattle.store.specs.Checks.{toldPermit};
+ghost use Rattle.store.specs.Tally.{tallyCode, nextSlot, appendedBy, executedBy, tallyAfter};
+use super::NONE;
+use super::checks;
+use super::checks::Denial;
+use super::checks::Permit;
+use super::lookup::added;
+use super::lookup::length_at;
+use super::lookup::span_in;
+use super::roles::Role;
+use super::roles::role_of;
+use super::slots;
+use wire::Command;
+
+pub struct Tally {
+    pub counts: [u8; 8],
+    pub closed: [bool; 8],
+    pub lengths: [u16; 8],
+    pub opened: u8,
+    pub running: u8,
+    pub left: u16,
+}
+
+// What a survey of a store finds: whether it is sound, and its tally.
+pub struct Survey {
+    pub sound: bool,
+    pub tally: Tally,
+}
+
+impl Tally {
+    // Codes 11 to 19, on a command that passed 8 to 10.
+    pub fn permits(self, command: Command) -> Permit
+        ensures { λ r. ⌜ toldPermit r ≡ tallyCode self command ⌝ }
+    {
+        let flag = command.flag;
+        let kind = command.kind;
+        let role = role_of(kind);
+        let counts = self.counts;
+        let closed = self.closed;
+        let lengths = self.lengths;
+        let opened = self.opened;
+        let count = slots::count_at(counts, opened);
+        if checks::lacks_open(flag, role, opened) {
+            return Permit::Denied(Denial::NoneOpen);
+        }
+        if checks::opens_another(role, opened) {
+            return Permit::Denied(Denial::AnotherOpen);
+        }
+        if checks::opens_closed(role, closed) {
+            return Permit::Denied(Denial::AlreadyClosed);
+        }
+        if checks::closes_empty(role, count) {
+            return Permit::Denied(Denial::NoEntries);
+        }
+        if checks::closes_too_long(role, length_at(lengths, opened)) {
+            return Permit::Denied(Denial::TooLong);
+        }
+        checks::permits_entry(flag, role, count, closed, opened, self.running)
+    }
+
+    // The slot of the open macro's next entry; 0 where there is none.
+    pub fn slot(self) -> usize
+        ensures { λ r. ⌜ (r ≡ nextSlot self) × (r < 192) ⌝ }
+    {
+        let counts = self.counts;
+        let opened = self.opened;
+        if slots::has_slot(counts, opened) {
+            slots::slot_of(opened as usize, slots::count_at(counts, opened) as usize)
+        } else {
+            0
+        }
+    }
+
+    // One entry more of the open macro.
+    fn appended(self, role: Role) -> Tally
+        ensures { λ r. ⌜ r ≡ appendedBy self role ⌝ }
+    {
+        let counts = self.counts;
+        let closed = self.closed;
+        let lengths = self.lengths;
+        let opened = self.opened;
+        if !slots::has_slot(counts, opened) {
+            return self;
+        }
+        let count = slots::count_at(counts, opened) + 1;
+        let length = length_at(lengths, opened);
+        let length = added(length, span_in(role, opened, closed, lengths));
+        let counts = slots::with_count(counts, opened, count);
+        let lengths = slots::with_length(lengths, opened, length);
+        Tally {
+            counts,
+            lengths,
+            ..self
+        }
+    }
+
+    fn opening(self, m: u8) -> Tally
+        ensures { λ r. ⌜ r ≡ executedBy self (Role.Open m) ⌝ }
+    {
+        let counts = self.counts;
+        let lengths = self.lengths;
+        let counts = slots::with_count(counts, m, 0);
+        let lengths = slots::with_length(lengths, m, 0);
+        Tally {
+            counts,
+            lengths,
+            opened: m,
+            ..self
+        }
+    }
+
+    fn closing(self) -> Tally
+        ensures { λ r. ⌜ r ≡ executedBy self Role.Close ⌝ }
+    {
+        let closed = self.closed;
+        let closed = slots::marked(closed, self.opened);
+        Tally {
+            closed,
+            opened: NONE,
+            ..self
+        }
+    }
+
+    fn starting(self, m: u8) -> Tally
+        ensures { λ r. ⌜ r ≡ executedBy self (Role.Run m) ⌝ }
+    {
+        let lengths = self.lengths;
+        let left = length_at(lengths, m);
+        Tally {
+            running: m,
+            left,
+            ..self
+        }
+    }
+
+    fn executed(self, role: Role) -> Tally
+        ensures { λ r. ⌜ r ≡ executedBy self role ⌝ }
+    {
+        match role {
+            Role::Plain => self,
+            Role::Open(m) => self.opening(m),
+            Role::Close => self.closing(),
+            Role::Run(m) => self.starting(m),
+            Role::Wait(_) => self,
+            Role::Stop => Tally {
+                running: NONE,
+                left: 0,
+                ..self
+            },
+            Role::Clear => Tally {
+                counts: [0; 8],
+                closed: [false; 8],
+                opened: NONE,
+                ..self
+            },
+        }
+    }
+
+    // The tally after an accepted command.
+    pub fn after(self, command: Command) -> Tally
+        ensures { λ r. ⌜ r ≡ tallyAfter self command ⌝ }
+    {
+        let kind = command.kind;
+        let role = role_of(kind);
+        if command.flag {
+            self.appended(role)
+        } else {
+            self.executed(role)
+        }
+    }
+}
