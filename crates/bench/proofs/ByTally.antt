@@ -18,11 +18,10 @@ use Rattle.store.specs.Checks.{permitCode, storeChecks}
 use Rattle.store.specs.Tally.{tallyChecks, tallyCode, nextSlot, tallyAfter, entriesAfter, Tallied}
 use Rattle.store.proofs.Tallies.{tallied-code, tallied-effect, tallied-after}
 use Rattle.bench.specs.declared.Bench.{Bench}
-use Rattle.bench.specs.Carry.{Outcome, cameraAfter, commandChecks, outcomeFor, carryOut, said, bytesChecks, taken, carryOutBytes}
-use Rattle.bench.specs.Events.{bytes}
+use Rattle.bench.specs.Carry.{cameraAfter, commandChecks, outcomeFor, carryOut, said, bytesChecks, taken, carryOutBytes}
 use Rattle.bench.specs.Order.{inert, orderFor, orderBy, orderIn, effectBy, carriedBy}
 use Rattle.bench.proofs.Outcomes.{judge-coded, read-coded, judge-then, carry-code, sound-bytes}
-use Rattle.bench.proofs.Sound.{GoodBench, Accepted, good-store, judge-accepted, read-accepted, event-keeps}
+use Rattle.bench.proofs.Sound.{GoodBench, Accepted, good-store, judge-accepted, read-accepted}
 
 -- The entries after a command, as it is appended or not.
 module _ (entries : List Command) (t : Tally) (c : Command) where
@@ -91,10 +90,7 @@ module _ (b : Bench) (t : Tally) (good : GoodBench b) (is : Tallied (b .store) t
   pub carried-bytes-by : (s : List ℕ) → carriedBy b t (orderIn t s) ≡ carryOutBytes b s
   carried-bytes-by s = taken-by s ∙ sound-bytes b s (good .sound)
 
-  -- after which the bench is sound again, and the tally true of it.
-  pub taken-good : (s : List ℕ) → GoodBench (taken b s .bench)
-  taken-good s = subst (λ (o : Outcome). GoodBench (o .bench)) (sym (sound-bytes b s (good .sound))) (event-keeps b good (bytes s))
-
+  -- after which the tally is true of the bench again.
   pub taken-tallied : (s : List ℕ) → Tallied (taken b s .bench .store) (tallyAfter t (orderIn t s .effect))
   unfolding orderIn taken
   taken-tallied s =

@@ -25,8 +25,8 @@ use Rattle.bench.specs.declared.orders.Order.{Order}
 use Rattle.bench.specs.Carry.{Outcome, verdictOf, cameraAfter, taken}
 use Rattle.bench.specs.Order.{Ordered, orderOf, orderIn, carriedBy}
 use Rattle.bench.specs.Run.{Listed, runRests, runList}
-use Rattle.bench.proofs.Sound.{GoodBench}
-use Rattle.bench.proofs.ByTally.{taken-by, taken-good, taken-tallied}
+use Rattle.bench.proofs.Sound.{GoodBench, taken-good}
+use Rattle.bench.proofs.ByTally.{taken-by, taken-tallied}
 
 -- Bytes that are written in two goes, the others behind the first, are written as one.
 pub written-both : (xs ys room : List ℕ) → length xs + length ys ≤ length room → written (xs ++ ys) room ≡ xs ++ written ys (drop (length xs) room)
@@ -110,7 +110,7 @@ module _ {b₀ : Bench} {sender : ℕ} {list room₀ room : List ℕ} {b : Bench
         (ap (λ (o : Ordered). carriedBy b t o) orders ∙ taken-by b t (behind .good) (behind .tallied) (ahead list at))
 
     good-after : GoodBench (outcome .bench)
-    good-after = subst (λ (o : Outcome). GoodBench (o .bench)) (sym took) (taken-good b t (behind .good) (behind .tallied) (ahead list at))
+    good-after = subst (λ (o : Outcome). GoodBench (o .bench)) (sym took) (taken-good b (behind .good) (ahead list at))
 
     tallied-after : Tallied (outcome .bench .store) tally
     tallied-after =

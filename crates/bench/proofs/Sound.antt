@@ -29,10 +29,10 @@ use Rattle.store.proofs.Handed.{handed-plainly}
 use Rattle.store.proofs.Status.{marked-is}
 use Rattle.bench.specs.declared.Bench.{Bench}
 use Rattle.bench.specs.Status.{freshBench, statusOf, benchSound, statusAt}
-use Rattle.bench.specs.Carry.{outcomeFor, effectOf, commandChecks, carryCode, carryOut, said, bytesChecks, carryBytesCode, carryOutBytes}
+use Rattle.bench.specs.Carry.{Outcome, outcomeFor, effectOf, commandChecks, carryCode, carryOut, said, bytesChecks, taken, carryBytesCode, carryOutBytes}
 use Rattle.bench.specs.Second.{benchAfter, secondAt}
 use Rattle.bench.specs.Events.{Event, command, bytes, second, afterOne, after, Reached, executes, accepts}
-use Rattle.bench.proofs.Outcomes.{judge-then, read-then, carry-code, carry-bytes-code}
+use Rattle.bench.proofs.Outcomes.{judge-then, read-then, carry-code, carry-bytes-code, sound-bytes}
 use Rattle.bench.proofs.Camera.{GoodCamera, fresh-camera, camera-second, executed-good, handed-good}
 
 -- A sound bench: it passes the test of 27, and its store has 192 slots, eight counts and eight marks, as every store of a program has by its type.
@@ -218,6 +218,10 @@ pub event-keeps : (b : Bench) → GoodBench b → (e : Event) → GoodBench (aft
 event-keeps b good (command c) = by-command GoodBench b good c good (λ t. effect-keeps b good c (t .passed))
 event-keeps b good (bytes s) = by-bytes GoodBench b good s good (λ t. effect-keeps b good (said s) (t .passed))
 event-keeps b good second = subst GoodBench (sym (second-is b good)) (second-sound b good)
+
+-- The command at the front of some bytes keeps it too, as a run carries it out.
+pub taken-good : (b : Bench) → GoodBench b → (s : List ℕ) → GoodBench (taken b s .bench)
+taken-good b good s = subst (λ (o : Outcome). GoodBench (o .bench)) (sym (sound-bytes b s (good .sound))) (event-keeps b good (bytes s))
 
 pub after-keeps : (b : Bench) → GoodBench b → (es : List Event) → GoodBench (after b es)
 after-keeps b good [] = good

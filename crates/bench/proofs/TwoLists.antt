@@ -13,15 +13,12 @@ use Rattle.words.specs.BigEndian.{written}
 use Rattle.words.proofs.Laws.{with-room, part-written}
 use Rattle.walk.specs.Walk.{rests}
 use Rattle.walk.proofs.Turns.{from-place}
-use Rattle.store.specs.Tally.{tallyOf}
-use Rattle.store.proofs.Tallies.{tallied-own}
 use Rattle.bench.specs.declared.Bench.{Bench}
 use Rattle.bench.specs.declared.running.Ran.{Ran}
 use Rattle.bench.specs.declared.running.Begun.{Begun}
 use Rattle.bench.specs.Carry.{taken}
 use Rattle.bench.specs.Run.{runRests, runList, kitPart, pupilPart, runCode, begunCode, ranOf, refusedWith, runOf, roomAfter}
-use Rattle.bench.proofs.Sound.{GoodBench}
-use Rattle.bench.proofs.ByTally.{taken-good}
+use Rattle.bench.proofs.Sound.{GoodBench, taken-good}
 use Rattle.bench.proofs.Listing.{records-long, written-both}
 
 -- A list keeps a bench sound.
@@ -29,7 +26,7 @@ pub list-keeps : (b : Bench) → GoodBench b → (sender number : ℕ) (rs : Lis
 unfolding runRests
 list-keeps b good sender number [] = good
 list-keeps b good sender number (r ∷ rs) =
-    list-keeps (taken b r .bench) (taken-good b (tallyOf (b .store)) good (tallied-own (b .store) (good .shaped)) r) sender (number + 1) rs
+    list-keeps (taken b r .bench) (taken-good b good r) sender (number + 1) rs
 
 module _ (b : Bench) (kit pupil room : List ℕ) where
   -- What a run promises of its answer and of its room afterwards.

@@ -138,9 +138,6 @@ module _ (cl cl′ : ℕ → Bool) (es es′ : ℕ → List Command) (same : (k 
       inside)
       (grown n m own inside)
 
-  pub grown-closed : (n m : ℕ) → cl m ≡ true → flatBelow cl es n m ≡ flatBelow cl′ es′ n m
-  grown-closed n m c = grown n m (same m c) (runs m c)
-
 -- Both laws on stores: equal marks and equal entries of the closed macros, and of macro m, give m the same written-out list.
 pub written-frame : (s t : Store) → s .closed ≡ t .closed → ((k : ℕ) → isClosed s k ≡ true → entriesOf s k ≡ entriesOf t k)
     → (m : ℕ) → entriesOf s m ≡ entriesOf t m → writtenOut s m ≡ writtenOut t m

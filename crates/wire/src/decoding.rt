@@ -60,21 +60,19 @@ fn fields_of(layout: Layout, one: u32, two: u32) -> Fields
     }
 }
 
-// Codes 7 to 10, once the form is known.
+// Codes 7 to 10, once the form is known. The kind is made beside the row, before the tests, so that one jump by the form serves both.
 fn decode_as(form: Form, flag: bool, one: u32, two: u32) -> Reading
     ensures { λ r. ⌜ answerOf r ≡ decodedAs form flag one two ⌝ }
 {
     let row = row_of(form);
     let layout = row.layout;
     let fields = fields_of(layout, one, two);
+    let kind = kind_of(form, fields.first, fields.second);
     if fields.pad != 0 {
         return Reading::Refused(Refusal::PadNotZero);
     }
     match judge_by(row, flag, fields.first, fields.second) {
-        Judged::Allowed => {
-            let kind = kind_of(form, fields.first, fields.second);
-            Reading::Taken(Command { flag, kind })
-        }
+        Judged::Allowed => Reading::Taken(Command { flag, kind }),
         Judged::Refused(refusal) => Reading::Refused(refusal),
     }
 }
