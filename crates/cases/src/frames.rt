@@ -7,53 +7,31 @@ use frame::Frame;
 use frame::Pace;
 use frame::Reading;
 
+// Puts one of the two frames at the front of a room.
 // Fresh: all numbers zero, both intervals 1, nothing running, open or closed.
-fn fresh(room: &mut [u8]) {
-    let ws = [1, 1, 0, 0, 0, 0, 0x0000ffff, 0];
-    words::put_words(room, &ws);
-}
-
 // Busy: region 1023, 0; goal 447fffff, 80000000; power and loop on, algorithm 2; macro 3 runs, 600 s left; 5 is open; 0 to 3 and 6 are closed.
-fn busy(room: &mut [u8]) {
-    let ws = [
-        0x00050002,
-        0xffff0007,
-        0x00030009,
-        0x03ff0000,
-        0x447fffff,
-        0x80000000,
-        0x25fe0305,
-        0x02584f05,
-    ];
-    words::put_words(room, &ws);
-}
-
 fn fill(room: &mut [u8], which: u8) {
     if which == 0 {
-        fresh(room);
+        words::put_words(room, &[1, 1, 0, 0, 0, 0, 0x0000ffff, 0]);
     } else {
-        busy(room);
-    }
-}
-
-fn set(room: &mut [u8], at: usize, value: u8) {
-    if at < room.len() {
-        room[at] = value;
-    }
-}
-
-fn paste(room: &mut [u8], at: usize, s: &[u8]) {
-    let mut i: usize = 0;
-    while i < s.len() {
-        set(room, std::num::wrapping_add_usize(at, i), s[i]);
-        i += 1;
+        let ws = [
+            0x00050002,
+            0xffff0007,
+            0x00030009,
+            0x03ff0000,
+            0x447fffff,
+            0x80000000,
+            0x25fe0305,
+            0x02584f05,
+        ];
+        words::put_words(room, &ws);
     }
 }
 
 // The frame that a line says, behind the size.
 fn changed(room: &mut [u8], s: &[u8]) {
     fill(room, words::byte_at(s, 1));
-    paste(
+    rooms::paste(
         room,
         words::byte_at(s, 2) as usize,
         lines::part(s, 3, s.len()),
@@ -71,6 +49,7 @@ fn again(f: Frame, s: &[u8]) {
     }
 }
 
+// The code of reading these bytes as a frame.
 fn answer(s: &[u8]) {
     say::text(b"code ");
     match frame::read_frame(s) {
@@ -79,6 +58,7 @@ fn answer(s: &[u8]) {
     }
 }
 
+// `frame`: reads so many bytes of the line's frame.
 pub fn read(s: &[u8]) {
     let mut room = [0u8; 64];
     changed(&mut room, s);
@@ -89,7 +69,7 @@ pub fn read(s: &[u8]) {
 fn taken(s: &[u8], value: u8) -> u64 {
     let mut room = [0u8; 32];
     changed(&mut room, s);
-    set(&mut room, words::byte_at(s, 2) as usize, value);
+    rooms::set(&mut room, words::byte_at(s, 2) as usize, value);
     match frame::read_frame(&room) {
         Reading::Taken(_) => {
             say::number(value as u64);
@@ -100,7 +80,7 @@ fn taken(s: &[u8], value: u8) -> u64 {
     }
 }
 
-// The byte at a place at each of its 256 values: those that are taken, and how many they are.
+// `values`: the byte at a place at each of its 256 values: those that are taken, and how many they are.
 pub fn values(s: &[u8]) {
     let mut count: u64 = 0;
     let mut value: u32 = 0;
@@ -112,6 +92,7 @@ pub fn values(s: &[u8]) {
     say::number(count);
 }
 
+// The time, interval and count that stand at these places.
 fn pace(s: &[u8], time: usize, interval: usize, count: usize) -> Pace {
     Pace {
         time: words::half_at(s, time),
@@ -144,6 +125,7 @@ fn fields(s: &[u8]) -> Frame {
     }
 }
 
+// `put`: writes the fields of the line's frame into a room.
 pub fn write(s: &[u8]) {
     let mut room = [0u8; 32];
     changed(&mut room, s);

@@ -23,20 +23,16 @@ pub fn part(s: &[u8], from: usize, to: usize) -> &[u8] {
     &s[0..0]
 }
 
-// Where two slices first differ; the end of the first where all of it stands at the front of the second.
-pub fn difference(s: &[u8], t: &[u8]) -> usize {
+// Does a slice begin with all of another one? Behind its end it counts as zeros.
+pub fn begins(s: &[u8], t: &[u8]) -> bool {
     let mut i: usize = 0;
-    while i < s.len() {
-        if words::byte_at(t, i) != s[i] {
-            return i;
+    while i < t.len() {
+        if words::byte_at(s, i) != t[i] {
+            return false;
         }
         i += 1;
     }
-    i
-}
-
-pub fn begins(line: &[u8], verb: &[u8]) -> bool {
-    difference(verb, line) == verb.len()
+    true
 }
 
 // What stands before the colon.
@@ -72,12 +68,14 @@ fn sum(room: &[u8], end: usize) -> u32 {
     sum
 }
 
+// Puts a word at a place, if there is room.
 fn put_word(room: &mut [u8], at: usize, value: u32) {
     if at <= room.len() {
         words::put_word(&mut room[at..], value);
     }
 }
 
+// Puts a hex digit behind the one that the byte at a place has.
 fn put_digit(room: &mut [u8], at: usize, d: u8) {
     if at < room.len() {
         room[at] = room[at] % 16 * 16 + d % 16;

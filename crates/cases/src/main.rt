@@ -1,25 +1,29 @@
 // Cases by name: each line of standard input, `VERB WHAT IS TRIED: BYTES`, is tried and printed as `VERB WHAT IS TRIED: ANSWER`.
+// A bench goes from line to line: a few quiet verbs, which print nothing, make the one that the next lines ask.
 // The cases stand in this crate's `stdin`, by theme, and the answers that the rules ask for in its `stdout`; what is printed must equal them.
+mod asking;
+mod compare;
 mod decoded;
 mod frames;
 mod lines;
+mod lists;
+mod making;
 mod reading;
 mod rooms;
 mod say;
+mod setting;
+mod states;
 
-// The answer to one line, by its verb.
-fn answer(line: &[u8], s: &[u8]) {
-    if lines::begins(line, b"read ") {
-        reading::read(s);
-    } else if lines::begins(line, b"span ") {
-        reading::span(s);
-    } else if lines::begins(line, b"again ") {
-        reading::again(s);
-    } else if lines::begins(line, b"judge ") {
-        decoded::judge(s);
-    } else if lines::begins(line, b"write ") {
-        decoded::write(s);
-    } else if lines::begins(line, b"frame ") {
+use bench::Bench;
+
+// The longest input, and the most bytes of one line.
+const TEXT: usize = 262144;
+
+const BYTES: usize = 192;
+
+// Verbs of single frames.
+fn framed(line: &[u8], s: &[u8]) {
+    if lines::begins(line, b"frame ") {
         frames::read(s);
     } else if lines::begins(line, b"values ") {
         frames::values(s);
@@ -30,33 +34,100 @@ fn answer(line: &[u8], s: &[u8]) {
     }
 }
 
-fn case(line: &[u8]) {
-    let mut room = [0u8; 192];
-    let count = lines::bytes(line, &mut room);
+// Verbs of single commands, and else those of frames.
+fn single(line: &[u8], s: &[u8]) {
+    if lines::begins(line, b"read ") {
+        reading::read(s);
+    } else if lines::begins(line, b"span ") {
+        say::number(wire::span(s) as u64);
+    } else if lines::begins(line, b"again ") {
+        reading::again(s);
+    } else if lines::begins(line, b"judge ") {
+        decoded::judge(s);
+    } else if lines::begins(line, b"write ") {
+        decoded::write(s);
+    } else {
+        framed(line, s);
+    }
+}
+
+// Verbs that leave the bench of the lines as it is.
+fn looked(b: Bench, line: &[u8], s: &[u8]) {
+    if lines::begins(line, b"status ") {
+        asking::status(b);
+    } else if lines::begins(line, b"state ") {
+        states::state(setting::set(b, s));
+    } else if lines::begins(line, b"run ") {
+        lists::run(b, s);
+    } else if lines::begins(line, b"shown ") {
+        lists::shown(s);
+    } else {
+        single(line, s);
+    }
+}
+
+// Verbs that change it and say what came of it, and else the others that print.
+fn answered(b: Bench, line: &[u8], s: &[u8]) -> Bench {
+    if lines::begins(line, b"step ") {
+        asking::verdict(b.carry_out(decoded::command(s)))
+    } else if lines::begins(line, b"bytes ") {
+        asking::verdict(b.carry_out_bytes(s))
+    } else if lines::begins(line, b"second ") {
+        asking::second(b)
+    } else {
+        looked(b, line, s);
+        b
+    }
+}
+
+// The quiet verbs, and else those that print a line.
+fn verb(b: Bench, line: &[u8], s: &[u8]) -> Bench {
+    if lines::begins(line, b"fresh ") {
+        return Bench::fresh();
+    }
+    if lines::begins(line, b"do ") {
+        return making::commands(b, s);
+    }
+    if lines::begins(line, b"times ") {
+        return making::times(b, s);
+    }
+    if lines::begins(line, b"pass ") {
+        return making::pass(b, s);
+    }
+    if lines::begins(line, b"set ") {
+        return setting::set(b, s);
+    }
     say::text(lines::label(line));
     say::text(b": ");
-    if count <= room.len() {
-        answer(line, lines::part(&room, 0, count));
-    } else {
-        say::text(b"too many bytes");
-    }
+    let next = answered(b, line, s);
     say::text(b"\n");
+    next
 }
 
-// A blank line or one that begins with `#` is for the reader alone.
-fn tried(line: &[u8]) {
-    if 0 < line.len() {
-        if line[0] != b'#' {
-            case(line);
-        }
+// The bench after a line. A blank line or one that begins with `#` is for the reader alone.
+fn case(b: Bench, line: &[u8]) -> Bench {
+    if line.len() == 0 {
+        return b;
     }
+    if line[0] == b'#' {
+        return b;
+    }
+    let mut room = [0u8; BYTES];
+    let count = lines::bytes(line, &mut room);
+    if room.len() < count {
+        say::text(b"too many bytes\n");
+        return b;
+    }
+    verb(b, line, lines::part(&room, 0, count))
 }
 
+// Each line takes the bench that the one before it left, the first a fresh one.
 fn each(text: &[u8]) {
+    let mut b = Bench::fresh();
     let mut at: usize = 0;
     while at < text.len() {
         let end = lines::find(text, at, b'\n');
-        tried(lines::part(text, at, end));
+        b = case(b, lines::part(text, at, end));
         if end < at {
             return;
         }
@@ -67,11 +138,12 @@ fn each(text: &[u8]) {
     }
 }
 
+// Tries every line of the input.
 fn main() {
-    let mut text = [0u8; 262144];
+    let mut text = [0u8; TEXT];
     let count = io::read_full(0, &mut text);
     each(&text[..count]);
-    if count == 262144 {
+    if count == TEXT {
         say::text(b"there may be more lines than fit\n");
     }
 }

@@ -1,11 +1,28 @@
-// Writing into a lent room: of 256 bytes of aa the writer is lent the first few, at most 255, and all are looked at afterwards.
+// Rooms, and writing into a lent one: of 256 bytes of aa the writer is lent the first few, at most 255, and all are looked at afterwards.
 // A writer that refuses must leave them all as they were; one that writes, all behind what it wrote.
 use super::lines;
 use super::say;
 use frame::Frame;
 use wire::Command;
 
-const FILL: u8 = 0xaa;
+// What every byte of a room is before it is lent.
+pub const FILL: u8 = 0xaa;
+
+// Sets a byte; nothing where the room has no such place.
+pub fn set(room: &mut [u8], at: usize, value: u8) {
+    if at < room.len() {
+        room[at] = value;
+    }
+}
+
+// Puts bytes into a room from a place on, as far as they fit.
+pub fn paste(room: &mut [u8], at: usize, s: &[u8]) {
+    let mut i: usize = 0;
+    while i < s.len() {
+        set(room, std::num::wrapping_add_usize(at, i), s[i]);
+        i += 1;
+    }
+}
 
 // Where the first byte stands, from a place on, that is not aa; the end or beyond where all are.
 fn first_changed(room: &[u8], from: usize) -> usize {
@@ -19,22 +36,24 @@ fn first_changed(room: &[u8], from: usize) -> usize {
     i
 }
 
-fn rest(room: &[u8], from: usize) {
+// Are all bytes from a place on still aa?
+pub fn rest(room: &[u8], from: usize) {
     let changed = first_changed(room, from);
     if changed < room.len() {
-        say::text(b", changed byte ");
-        say::number(changed as u64);
+        say::field(b", changed byte ", changed as u64);
     } else {
         say::text(b", rest aa");
     }
 }
 
+// What a writer wrote, and what is behind it.
 fn written(room: &[u8], count: usize) {
     say::text(b"code 0, wrote ");
     say::hex(lines::part(room, 0, count));
     rest(room, count);
 }
 
+// Lends the front of a room to the writer of a command.
 fn write_command(command: Command, room: &mut [u8], size: usize) -> wire::Writing {
     if size <= room.len() {
         wire::write_command(command, &mut room[0..size])
@@ -43,8 +62,9 @@ fn write_command(command: Command, room: &mut [u8], size: usize) -> wire::Writin
     }
 }
 
+// Writes a command into so many bytes of a room, and says what came of it.
 pub fn put_command(command: Command, size: usize) {
-    let mut room = [0xaau8; 256];
+    let mut room = [FILL; 256];
     match write_command(command, &mut room, size) {
         wire::Writing::Written(count) => written(&room, count),
         wire::Writing::Refused(refusal) => {
@@ -54,6 +74,7 @@ pub fn put_command(command: Command, size: usize) {
     }
 }
 
+// Lends the front of a room to the writer of a frame.
 fn write_frame(f: Frame, room: &mut [u8], size: usize) -> frame::Writing {
     if size <= room.len() {
         frame::write_frame(f, &mut room[0..size])
@@ -62,13 +83,13 @@ fn write_frame(f: Frame, room: &mut [u8], size: usize) -> frame::Writing {
     }
 }
 
+// Writes a frame into so many bytes of a room, and says what came of it.
 pub fn put_frame(f: Frame, size: usize) {
-    let mut room = [0xaau8; 256];
+    let mut room = [FILL; 256];
     match write_frame(f, &mut room, size) {
         frame::Writing::Written => written(&room, frame::SIZE),
         frame::Writing::Refused(refusal) => {
-            say::text(b"code ");
-            say::number(frame::code_of(refusal) as u64);
+            say::field8(b"code ", frame::code_of(refusal));
             rest(&room, 0);
         }
     }

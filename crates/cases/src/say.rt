@@ -3,21 +3,26 @@
 use super::lines;
 use wire::Command;
 use wire::Form;
+use wire::Kind;
 use wire::Layout;
 use wire::Told;
 
+// Bytes as they are.
 pub fn text(s: &[u8]) {
     io::write_all(1, s);
 }
 
+// A number in decimal.
 pub fn number(n: u64) {
     io::print_decimal(1, n);
 }
 
+// A byte in hex.
 fn byte(b: u8) {
     io::print_hex(1, b as u64, 2);
 }
 
+// Bytes in hex.
 pub fn hex(s: &[u8]) {
     let mut i: usize = 0;
     while i < s.len() {
@@ -26,11 +31,26 @@ pub fn hex(s: &[u8]) {
     }
 }
 
+// A number behind its name.
+pub fn field(name: &[u8], n: u64) {
+    text(name);
+    number(n);
+}
+
+// The same of a byte.
+pub fn field8(name: &[u8], n: u8) {
+    field(name, n as u64);
+}
+
+// The same of a number of 16 bits.
+pub fn field16(name: &[u8], n: u16) {
+    field(name, n as u64);
+}
+
+// A code and its parameter.
 pub fn told(t: Told) {
-    text(b"code ");
-    number(t.code as u64);
-    text(b" par ");
-    number(t.par as u64);
+    field8(b"code ", t.code);
+    field8(b" par ", t.par);
 }
 
 // Where in the names below that of a form begins.
@@ -54,6 +74,7 @@ fn place(form: Form) -> usize {
     }
 }
 
+// The name of a form.
 fn name(form: Form) {
     let names =
         b"IMG_PWR IMG_REGION IMG_TRACK TRK_ALG TRK_LOOP IMG_IMAGE TRK_GOAL TLM_FLUSH FLUSH_AUTO OPEN CLOSE RUN WAIT STOP CLEAR ";
@@ -61,36 +82,36 @@ fn name(form: Form) {
     text(lines::part(names, at, lines::find(names, at, b' ')));
 }
 
+// A number as an argument.
 fn argument(a: u32) {
     text(b" ");
     number(a as u64);
 }
 
-fn two(a: u32, b: u32) {
-    argument(a);
-    argument(b);
-}
-
+// A goal as an argument, by its bits.
 fn goal(bits: u32) {
     text(b" ");
     io::print_hex(1, bits as u64, 8);
 }
 
-fn goals(a: u32, b: u32) {
-    goal(a);
-    goal(b);
-}
-
+// The arguments that a layout has.
 fn arguments(layout: Layout, a: u32, b: u32) {
     match layout {
         Layout::Bare => (),
         Layout::Byte => argument(a),
         Layout::Half => argument(a),
-        Layout::Halves => two(a, b),
-        Layout::Singles => goals(a, b),
+        Layout::Halves => {
+            argument(a);
+            argument(b);
+        }
+        Layout::Singles => {
+            goal(a);
+            goal(b);
+        }
     }
 }
 
+// Acceptance, and the flag of the command.
 fn accepted(flag: bool) {
     if flag {
         text(b"code 0, flag 1 ");
@@ -99,13 +120,19 @@ fn accepted(flag: bool) {
     }
 }
 
-pub fn taken(c: Command) {
-    let kind = c.kind;
+// A kind by its name, with its own arguments.
+pub fn kind(kind: Kind) {
     let parts = wire::parts_of(kind);
     let form = parts.form;
     let row = wire::row_of(form);
     let layout = row.layout;
-    accepted(c.flag);
     name(form);
     arguments(layout, parts.first, parts.second);
+}
+
+// A command that was taken.
+pub fn taken(c: Command) {
+    accepted(c.flag);
+    let taken = c.kind;
+    kind(taken);
 }

@@ -18,7 +18,6 @@ use Rattle.walk.specs.Walk.{rests}
 use Rattle.walk.proofs.Rests.{rests-512}
 use Rattle.bench.specs.declared.Bench.{Bench}
 use Rattle.bench.specs.declared.running.Ran.{Ran}
-use Rattle.bench.specs.declared.running.Begun.{Begun}
 use Rattle.bench.specs.Run.{ranOf, begunCode, runOf, runRests, kitPart, reportOf, roomAfter}
 use Rattle.bench.specs.Status.{freshBench}
 use Rattle.bench.proofs.Sound.{fresh-sound}
@@ -28,9 +27,9 @@ use Rattle.listing.specs.Kit.{kitBytes}
 use Rattle.listing.specs.Text.{ascii, decimalIn, headerLine, lineOf, lineAt}
 
 -- A run that was carried out has at most 1,024 records.
-pub few-records : (b : Bench) (kit pupil room : List ℕ) (r : Ran) → ranOf r ≡ runOf b kit pupil room → r .begun ≡ Begun.Done → r .kit + r .pupil ≤ 1024
+pub few-records : (b : Bench) (kit pupil room : List ℕ) (r : Ran) → ranOf r ≡ runOf b kit pupil room → begunCode (r .begun) ≡ 0 → r .kit + r .pupil ≤ 1024
 few-records b kit pupil room r told done =
-    let accepted : runOf b kit pupil room .code ≡ 0 = sym (ap (λ t. t .code) told) ∙ ap begunCode done in
+    let accepted : runOf b kit pupil room .code ≡ 0 = sym (ap (λ t. t .code) told) ∙ done in
     let passed = report.passed b kit pupil room accepted in
     omega (
       arith,

@@ -4,7 +4,6 @@ ghost use mathlib.Core.Path.{_≡_};
 ghost use Prim.Native.Nat.{_≤_};
 ghost use lib.ListN.{length};
 ghost use Rattle.listing.specs.Answer.{answerOf};
-use bench::Begun;
 use bench::Bench;
 use libc::STDIN_FILENO;
 use libc::STDOUT_FILENO;
@@ -63,11 +62,11 @@ fn run(pupil: &[u8]) {
     let bench = Bench::fresh();
     let ran = bench.run(&kit, pupil, &mut records);
     let begun = ran.begun;
-    match begun {
-        Begun::Done => print_report(&records, ran.kit + ran.pupil),
-        Begun::ListTooLong => print_refusal(20),
-        Begun::RoomTooSmall => print_refusal(21),
-        Begun::Unsound => print_refusal(27),
+    let code = bench::code_of(begun);
+    if code == 0 {
+        print_report(&records, ran.kit + ran.pupil);
+    } else {
+        print_refusal(code);
     }
 }
 

@@ -5,7 +5,6 @@ use super::items::FILL;
 use super::items::State;
 use super::output;
 use super::script;
-use bench::Begun;
 use bench::Ran;
 
 // The largest room; a longer one counts as this.
@@ -18,15 +17,6 @@ fn capped(length: u16) -> usize
         length as usize
     } else {
         LARGEST
-    }
-}
-
-fn code_of(begun: Begun) -> u8 {
-    match begun {
-        Begun::Done => 0,
-        Begun::ListTooLong => 20,
-        Begun::RoomTooSmall => 21,
-        Begun::Unsound => 27,
     }
 }
 
@@ -88,7 +78,7 @@ fn rest_line(out: &mut [u8], used: usize, room: &[u8], count: usize) -> usize {
 
 fn lines(out: &mut [u8], used: usize, ran: Ran, room: &[u8]) -> usize {
     let begun = ran.begun;
-    let used = verdict_line(out, used, code_of(begun), ran.kit, ran.pupil);
+    let used = verdict_line(out, used, bench::code_of(begun), ran.kit, ran.pupil);
     let count = ran.kit as usize + ran.pupil as usize;
     let used = record_lines(out, used, room, count);
     rest_line(out, used, room, count)

@@ -1,8 +1,8 @@
 -- `same_entries` is safe and ends: an index below 192 is a slot of both, and the slots that are left fall.
 use Prim.Native.Nat.{_-_}
 use borrow.Author.Needs.{needs}
-use Rattle.cases_bench.proofs.benches.same_entries.Statement.{statement}
-use Rattle.cases_bench.proofs.benches.same_entries.Tie as tie
+use Rattle.cases.proofs.compare.same_entries.Statement.{statement}
+use Rattle.cases.proofs.compare.same_entries.Tie as tie
 
 abbrev Inv-loop : tie.InvT-loop
 Inv-loop a b i₀ i = Unit {0}

@@ -1,15 +1,15 @@
--- `difference` is safe and ends: each read is behind the loop's test, and what is left of the slice falls.
+-- `begins` is safe and ends: each read is behind the loop's test, and what is left of the slice falls.
 use Prim.Native.Nat.{_-_}
 use borrow.Author.Needs.{needs}
 use lib.ListN.{length}
-use Rattle.cases.proofs.lines.difference.Statement.{statement}
-use Rattle.cases.proofs.lines.difference.Tie as tie
+use Rattle.cases.proofs.lines.begins.Statement.{statement}
+use Rattle.cases.proofs.lines.begins.Tie as tie
 
 abbrev Inv-loop : tie.InvT-loop
 Inv-loop s t i₀ i = Unit {0}
 
 abbrev μ-loop : tie.MeasureT-loop
-μ-loop s t i₀ i = length s - i
+μ-loop s t i₀ i = length t - i
 
 loop-holds : tie.Need-loop-holds Inv-loop μ-loop
 loop-holds c = search needs
@@ -35,8 +35,8 @@ loop-again c = search needs
 returns-2 : tie.Need-returns-2 Inv-loop μ-loop
 returns-2 c = search needs
 
-pub difference-spec : {M : Type 1} → statement M
-difference-spec =
+pub begins-spec : {M : Type 1} → statement M
+begins-spec =
     tie.close
     (tie.spec
     Inv-loop

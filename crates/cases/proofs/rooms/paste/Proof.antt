@@ -3,8 +3,8 @@ use mathlib.Core.Path.{_≡_}
 use Prim.Native.Nat.{_-_}
 use borrow.Author.Needs.{needs}
 use lib.ListN.{length}
-use Rattle.cases.proofs.frames.paste.Statement.{statement}
-use Rattle.cases.proofs.frames.paste.Tie as tie
+use Rattle.cases.proofs.rooms.paste.Statement.{statement}
+use Rattle.cases.proofs.rooms.paste.Tie as tie
 
 abbrev Inv-loop : tie.InvT-loop
 Inv-loop room₀ at s i₀ room i = length room ≡ length room₀

@@ -1,8 +1,8 @@
 -- `same_macros` is safe and ends: an index below 8 is a macro of both, and the macros that are left fall.
 use Prim.Native.Nat.{_-_}
 use borrow.Author.Needs.{needs}
-use Rattle.cases_bench.proofs.benches.same_macros.Statement.{statement}
-use Rattle.cases_bench.proofs.benches.same_macros.Tie as tie
+use Rattle.cases.proofs.compare.same_macros.Statement.{statement}
+use Rattle.cases.proofs.compare.same_macros.Tie as tie
 
 abbrev Inv-loop : tie.InvT-loop
 Inv-loop a b m₀ m = Unit {0}
@@ -40,11 +40,11 @@ loop-less c = search needs
 loop-again : tie.Need-loop-again Inv-loop μ-loop
 loop-again c = search needs
 
-same-entries-requires : tie.Need-same-entries-requires Inv-loop μ-loop
-same-entries-requires c κs = search needs
-
 returns-3 : tie.Need-returns-3 Inv-loop μ-loop
 returns-3 c = search needs
+
+returns-4 : tie.Need-returns-4 Inv-loop μ-loop
+returns-4 c = search needs
 
 pub same-macros-spec : {M : Type 1} → statement M
 same-macros-spec =
@@ -62,5 +62,5 @@ same-macros-spec =
     add-m
     loop-less
     loop-again
-    same-entries-requires
-    returns-3)
+    returns-3
+    returns-4)

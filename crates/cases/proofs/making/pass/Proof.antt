@@ -1,23 +1,23 @@
--- `flushed` ends: the flushes that are left fall.
+-- `pass` ends: the seconds that are left fall.
 use Prim.Native.Nat.{_-_}
 use borrow.Author.Needs.{needs}
-use Rattle.cases_bench.proofs.macros.flushed.Statement.{statement}
-use Rattle.cases_bench.proofs.macros.flushed.Tie as tie
+use Rattle.cases.proofs.making.pass.Statement.{statement}
+use Rattle.cases.proofs.making.pass.Tie as tie
 
 abbrev Inv-loop : tie.InvT-loop
-Inv-loop times b₀ k₀ b k = Unit {0}
+Inv-loop s count b₀ k₀ b k = Unit {0}
 
 abbrev μ-loop : tie.MeasureT-loop
-μ-loop times b₀ k₀ b k = times - k
+μ-loop s count b₀ k₀ b k = count - k
 
-fresh-requires : tie.Need-fresh-requires Inv-loop μ-loop
-fresh-requires c κs = search needs
+half-at-requires : tie.Need-half-at-requires Inv-loop μ-loop
+half-at-requires c κs = search needs
 
 loop-holds : tie.Need-loop-holds Inv-loop μ-loop
 loop-holds c = search needs
 
-did-requires : tie.Need-did-requires Inv-loop μ-loop
-did-requires c κs = search needs
+second-requires : tie.Need-second-requires Inv-loop μ-loop
+second-requires c κs = search needs
 
 add-k : tie.Need-add-k Inv-loop μ-loop
 add-k c = search needs
@@ -31,15 +31,15 @@ loop-again c = search needs
 returns : tie.Need-returns Inv-loop μ-loop
 returns c = search needs
 
-pub flushed-spec : {M : Type 1} → statement M
-flushed-spec =
+pub pass-spec : {M : Type 1} → statement M
+pass-spec =
     tie.close
     (tie.spec
     Inv-loop
     μ-loop
-    fresh-requires
+    half-at-requires
     loop-holds
-    did-requires
+    second-requires
     add-k
     loop-less
     loop-again

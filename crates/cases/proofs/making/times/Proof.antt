@@ -1,0 +1,50 @@
+-- `times` ends: the turns that are left fall.
+use Prim.Native.Nat.{_-_}
+use borrow.Author.Needs.{needs}
+use Rattle.cases.proofs.making.times.Statement.{statement}
+use Rattle.cases.proofs.making.times.Tie as tie
+
+abbrev Inv-loop : tie.InvT-loop
+Inv-loop s count list b₀ k₀ b k = Unit {0}
+
+abbrev μ-loop : tie.MeasureT-loop
+μ-loop s count list b₀ k₀ b k = count - k
+
+half-at-requires : tie.Need-half-at-requires Inv-loop μ-loop
+half-at-requires c κs = search needs
+
+part-requires : tie.Need-part-requires Inv-loop μ-loop
+part-requires c κs = search needs
+
+loop-holds : tie.Need-loop-holds Inv-loop μ-loop
+loop-holds c = search needs
+
+commands-requires : tie.Need-commands-requires Inv-loop μ-loop
+commands-requires c κs = search needs
+
+add-k : tie.Need-add-k Inv-loop μ-loop
+add-k c = search needs
+
+loop-less : tie.Need-loop-less Inv-loop μ-loop
+loop-less c = search needs
+
+loop-again : tie.Need-loop-again Inv-loop μ-loop
+loop-again c = search needs
+
+returns : tie.Need-returns Inv-loop μ-loop
+returns c = search needs
+
+pub times-spec : {M : Type 1} → statement M
+times-spec =
+    tie.close
+    (tie.spec
+    Inv-loop
+    μ-loop
+    half-at-requires
+    part-requires
+    loop-holds
+    commands-requires
+    add-k
+    loop-less
+    loop-again
+    returns)

@@ -1,0 +1,82 @@
+// Two benches compared, in every field and every slot, in use or not.
+// Entries are the same where their flags, their opcodes and both arguments are; goals go by their bits.
+use bench::Bench;
+use camera::Camera;
+use camera::Series;
+use store::Store;
+use wire::Command;
+
+// The slots that a store has for entries.
+pub const SLOTS: usize = store::MACROS * store::ENTRIES;
+
+// The same series?
+fn same_series(a: Series, b: Series) -> bool {
+    a.time == b.time && a.interval == b.interval && a.next == b.next && a.count == b.count
+}
+
+// The same camera?
+fn same_camera(a: Camera, b: Camera) -> bool {
+    same_series(a.image, b.image)
+        && same_series(a.track, b.track)
+        && a.x == b.x
+        && a.y == b.y
+        && a.xgoal == b.xgoal
+        && a.ygoal == b.ygoal
+        && a.power == b.power
+        && a.auto == b.auto
+        && a.tracking == b.tracking
+        && a.algorithm == b.algorithm
+        && a.flushes == b.flushes
+}
+
+// The same entry?
+fn same_entry(a: Command, b: Command) -> bool {
+    let kind = a.kind;
+    let parts = wire::parts_of(kind);
+    let form = parts.form;
+    let row = wire::row_of(form);
+    let kind = b.kind;
+    let others = wire::parts_of(kind);
+    let form = others.form;
+    let other = wire::row_of(form);
+    a.flag == b.flag
+        && row.opcode == other.opcode
+        && parts.first == others.first
+        && parts.second == others.second
+}
+
+// The same entries in all slots?
+fn same_entries(a: Store, b: Store) -> bool {
+    let mut i: usize = 0;
+    while i < SLOTS {
+        let entry = a.entries[i];
+        let other = b.entries[i];
+        if !same_entry(entry, other) {
+            return false;
+        }
+        i += 1;
+    }
+    true
+}
+
+// The same macros, entries aside: how many each has, which are closed, which is open or runs, and the seconds left?
+fn same_macros(a: Store, b: Store) -> bool {
+    let mut m: usize = 0;
+    while m < store::MACROS {
+        if a.counts[m] != b.counts[m] {
+            return false;
+        }
+        if a.closed[m] != b.closed[m] {
+            return false;
+        }
+        m += 1;
+    }
+    a.opened == b.opened && a.running == b.running && a.left == b.left
+}
+
+// Is the second bench the first, as it came?
+pub fn same(a: Bench, b: Bench) -> bool {
+    same_camera(a.camera, b.camera)
+        && same_macros(a.store, b.store)
+        && same_entries(a.store, b.store)
+}
