@@ -50,10 +50,11 @@ tallyChecks t c = rowsFor (c .flag) (roleOf (c .kind)) (t .opened) (t .closed) (
 unfoldable pub tallyCode : Tally → Command → ℕ
 tallyCode t c = firstOf (tallyChecks t c)
 
--- Is there a slot for one more entry of macro m? Where the open macro has one, this is it; any number stands for it elsewhere.
+-- Is there a slot for one more entry of macro m?
 abbrev pub hasSlot : List ℕ → ℕ → Bool
 hasSlot counts m = ltb m 8 && not (leb 24 (getD counts m 0))
 
+-- The slot of the open macro's next entry; 0 where it has none, and then no append is accepted.
 abbrev pub nextSlot : Tally → ℕ
 nextSlot t = cond (hasSlot (t .counts) (t .opened)) (slotAt (t .opened) (openCount t)) 0
 
