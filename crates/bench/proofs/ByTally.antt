@@ -9,17 +9,17 @@ use borrow.Author.Tests.{eqb-true}
 use Rattle.wire.specs.declared.kinds.Command.{Command}
 use Rattle.wire.specs.declared.judging.Told.{Told}
 use Rattle.wire.specs.Codes.{Check, firstOf}
-use Rattle.wire.specs.Judge.{argChecks, toldWith, parFor}
+use Rattle.wire.specs.Judge.{argChecks, toldWith, firstBadIn, parOf}
 use Rattle.wire.specs.Read.{readChecks}
 use Rattle.wire.proofs.FirstOf.{Coded, first-append}
 use Rattle.store.specs.declared.Store.{Store}
 use Rattle.store.specs.declared.tally.Tally.{Tally}
 use Rattle.store.specs.Checks.{permitCode, storeChecks}
-use Rattle.store.specs.Tally.{tallyChecks, tallyCode, nextSlot, tallyAfter, entriesAfter, Tallied}
+use Rattle.store.specs.TallySteps.{tallyChecks, tallyCode, nextSlot, tallyAfter, entriesAfter, Tallied}
 use Rattle.store.proofs.Tallies.{tallied-code, tallied-effect, tallied-after}
 use Rattle.bench.specs.declared.Bench.{Bench}
 use Rattle.bench.specs.Carry.{cameraAfter, commandChecks, outcomeFor, carryOut, said, bytesChecks, taken, carryOutBytes}
-use Rattle.bench.specs.Order.{inert, orderFor, orderBy, orderIn, effectBy, carriedBy}
+use Rattle.bench.specs.Steps.{inert, orderFor, orderBy, orderIn, effectBy, carriedBy}
 use Rattle.bench.proofs.Outcomes.{judge-coded, read-coded, judge-then, carry-code, sound-bytes}
 use Rattle.bench.proofs.Sound.{GoodBench, Accepted, good-store, judge-accepted, read-accepted}
 
@@ -51,7 +51,7 @@ module _ (b : Bench) (t : Tally) (good : GoodBench b) (is : Tallied (b .store) t
     carried-for = go (eqb code 0) refl
       where
         told : Told
-        told = toldWith code (parFor code c)
+        told = toldWith code (parOf code (firstBadIn c))
 
         go : (none : Bool) → eqb code 0 ≡ none → carriedBy b t (orderFor code c) ≡ outcomeFor code b c
         go true e =

@@ -14,11 +14,11 @@ use Rattle.store.specs.declared.tally.Survey.{Survey}
 use Rattle.store.specs.Slots.{idle}
 use Rattle.store.specs.Effects.{storeWith, handedOf, nextEntry, afterSecond}
 use Rattle.store.specs.Sound.{storeSound}
-use Rattle.store.specs.Tally.{surveyOf}
-use Rattle.store.specs.Second.{Stepped, stepOf, steppedOf}
+use Rattle.store.specs.TallySteps.{surveyOf}
+use Rattle.store.specs.SecondSteps.{Stepped, stepOf, steppedOf}
 use Rattle.bench.specs.declared.Bench.{Bench}
 use Rattle.bench.specs.Status.{statusOf, rulesHold, benchSound, statusAt}
-use Rattle.bench.specs.Order.{surveyed}
+use Rattle.bench.specs.Steps.{surveyed}
 use Rattle.bench.specs.Second.{stayedAt, executedAll, secondAt}
 
 module _ (b : Bench) where

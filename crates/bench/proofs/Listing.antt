@@ -19,11 +19,11 @@ use Rattle.report.specs.Record.{recordBytes}
 use Rattle.camera.specs.declared.Camera.{Camera}
 use Rattle.store.specs.declared.Store.{Store}
 use Rattle.store.specs.declared.tally.Tally.{Tally}
-use Rattle.store.specs.Tally.{storeOf, tallyAfter, entriesAfter, Tallied}
+use Rattle.store.specs.TallySteps.{storeOf, tallyAfter, entriesAfter, Tallied}
 use Rattle.bench.specs.declared.Bench.{Bench}
 use Rattle.bench.specs.declared.orders.Order.{Order}
 use Rattle.bench.specs.Carry.{Outcome, verdictOf, cameraAfter, taken}
-use Rattle.bench.specs.Order.{Ordered, orderOf, orderIn, carriedBy}
+use Rattle.bench.specs.Steps.{Ordered, orderOf, orderIn, carriedBy}
 use Rattle.bench.specs.Run.{Listed, runRests, runList}
 use Rattle.bench.proofs.Sound.{GoodBench, taken-good}
 use Rattle.bench.proofs.ByTally.{taken-by, taken-tallied}

@@ -9,7 +9,7 @@ use Rattle.wire.specs.declared.judging.Refusal.{Refusal}
 use Rattle.wire.specs.declared.judging.Told.{Told}
 use Rattle.wire.specs.declared.decoding.Reading.{Reading}
 use Rattle.wire.specs.Codes.{firstOf}
-use Rattle.wire.specs.Judge.{toldWith, toldOf, judged, judgeCode, argChecks, parFor}
+use Rattle.wire.specs.Judge.{toldWith, toldOf, judged, judgeCode, argChecks, firstBadIn, parOf}
 use Rattle.wire.specs.Read.{Answer, answerOf, readCode, readOf, readChecks}
 use Rattle.wire.proofs.FirstOf.{first-append}
 use Rattle.wire.proofs.Answers.{refusal-code}
@@ -17,9 +17,9 @@ use Rattle.store.specs.declared.checks.Denial.{Denial}
 use Rattle.store.specs.declared.checks.Permit.{Permit}
 use Rattle.store.specs.declared.tally.Tally.{Tally}
 use Rattle.store.specs.Checks.{codeOf, toldPermit}
-use Rattle.store.specs.Tally.{tallyChecks, tallyCode}
+use Rattle.store.specs.TallySteps.{tallyChecks, tallyCode}
 use Rattle.bench.specs.Carry.{said}
-use Rattle.bench.specs.Order.{Ordered, inert, orderFor, orderPermitted, orderBy, orderIn}
+use Rattle.bench.specs.Steps.{Ordered, inert, orderFor, orderPermitted, orderBy, orderIn}
 use Rattle.bench.proofs.Outcomes.{judge-coded, read-coded}
 
 -- What a refusal orders: its code and parameter, and nothing to take effect.
@@ -27,7 +27,7 @@ abbrev stays : Told → Ordered
 stays told = record { told = told; effect = inert }
 
 -- Refused by rows 1 to 10.
-misread : (c : Command) (code : ℕ) (r : Refusal) → toldOf r ≡ toldWith code (parFor code c) → stays (toldOf r) ≡ orderFor code c
+misread : (c : Command) (code : ℕ) (r : Refusal) → toldOf r ≡ toldWith code (parOf code (firstBadIn c)) → stays (toldOf r) ≡ orderFor code c
 misread c code r e =
     let other : eqb code 0 ≡ false = rw (ap (λ (t : Told). t .code) e) at (refusal-code r) in
     rw (e, other)
@@ -83,7 +83,7 @@ judged-passed t c e =
 pub read-refused : (t : Tally) (s : List ℕ) (r : Refusal) → answerOf (Reading.Refused r) ≡ readOf s → stays (toldOf r) ≡ orderIn t s
 unfolding orderIn readOf
 read-refused t s r e =
-    let told : toldOf r ≡ toldWith (readCode s) (parFor (readCode s) (said s)) = ap (λ (a : Answer). a .told) e in
+    let told : toldOf r ≡ toldWith (readCode s) (parOf (readCode s) (firstBadIn (said s))) = ap (λ (a : Answer). a .told) e in
     let other : eqb (readCode s) 0 ≡ false = rw (ap (λ (t : Told). t .code) told) at (refusal-code r) in
     let code : firstOf (readChecks s ++ tallyChecks t (said s)) ≡ readCode s = rw (read-tally t s, other) in
     misread (said s) (readCode s) r told ∙ ap (λ n. orderFor n (said s)) (sym code)

@@ -7,13 +7,13 @@ use denote.Laws.{Is}
 use denote.Struct.Declared.{row}
 use denote.Struct.Laws.{val}
 use Rattle.store.specs.declared.tally.Survey.{Survey}
-use Rattle.store.specs.Tally.{Tallied}
+use Rattle.store.specs.TallySteps.{Tallied}
 use Rattle.store.proofs.Sound.{Shaped}
 use Rattle.store.proofs.Tallies.{tallied-own}
 use Rattle.store.proofs.Walk.{length-mapped}
 use Rattle.bench.specs.declared.Bench.{Bench}
 use Rattle.bench.specs.Status.{benchSound}
-use Rattle.bench.specs.Order.{surveyed}
+use Rattle.bench.specs.Steps.{surveyed}
 use Rattle.bench.proofs.Sound.{GoodBench}
 use Rattle.bench.proofs.Bench.{the-type}
 use Rattle.bench.proofs.Bench.Laws.{the-laws}

@@ -14,8 +14,8 @@ use Rattle.words.proofs.Laws.{with-room, part-written}
 use Rattle.walk.specs.Walk.{rests}
 use Rattle.walk.proofs.Turns.{from-place}
 use Rattle.bench.specs.declared.Bench.{Bench}
-use Rattle.bench.specs.declared.running.Ran.{Ran}
-use Rattle.bench.specs.declared.running.Begun.{Begun}
+use Rattle.bench.specs.declared.lists.Ran.{Ran}
+use Rattle.bench.specs.declared.lists.Begun.{Begun}
 use Rattle.bench.specs.Carry.{taken}
 use Rattle.bench.specs.Run.{runRests, runList, kitPart, pupilPart, runCode, begunCode, ranOf, refusedWith, runOf, roomAfter}
 use Rattle.bench.proofs.Sound.{GoodBench, taken-good}

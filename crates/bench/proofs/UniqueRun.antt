@@ -5,8 +5,8 @@ use mathlib.Core.Path.{_≡_, refl, ap}
 use mathlib.Core.Bool.{cond}
 use lib.Dec.{eqb}
 use Rattle.words.proofs.Laws.{one-to-one}
-use Rattle.bench.specs.declared.running.Ran.{Ran}
-use Rattle.bench.specs.declared.running.Begun.{Begun}
+use Rattle.bench.specs.declared.lists.Ran.{Ran}
+use Rattle.bench.specs.declared.lists.Begun.{Begun}
 use Rattle.bench.specs.Run.{begunCode, RunTold, ranOf}
 
 -- Whether a run with a code was carried out, and why not.

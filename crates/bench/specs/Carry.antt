@@ -6,7 +6,7 @@ use lib.Dec.{eqb}
 use Rattle.wire.specs.declared.kinds.Command.{Command}
 use Rattle.wire.specs.declared.judging.Told.{Told}
 use Rattle.wire.specs.Codes.{Check, firstOf}
-use Rattle.wire.specs.Judge.{toldWith, toldOf, argChecks, parFor}
+use Rattle.wire.specs.Judge.{toldWith, toldOf, argChecks, firstBadIn, parOf}
 use Rattle.wire.specs.Read.{lengthOf, commandIn, readChecks}
 use Rattle.camera.specs.declared.Camera.{Camera}
 use Rattle.camera.specs.Camera.{executedOf}
@@ -41,7 +41,7 @@ effectOf b c = record { camera = cameraAfter (b .camera) c; store = appliedOf (b
 
 -- "A refused command changes no part of the state."
 abbrev pub outcomeFor : ℕ → Bench → Command → Outcome
-outcomeFor code b c = record { told = toldWith code (parFor code c); bench = cond (eqb code 0) (effectOf b c) b }
+outcomeFor code b c = record { told = toldWith code (parOf code (firstBadIn c)); bench = cond (eqb code 0) (effectOf b c) b }
 
 -- Rows 8 to 19, on a decoded command.
 abbrev pub commandChecks : Bench → Command → List Check

@@ -10,8 +10,8 @@ use Rattle.walk.specs.Walk.{rests}
 use Rattle.walk.specs.Shown.{tooLong}
 use Rattle.report.specs.Record.{recordBytes}
 use Rattle.bench.specs.declared.Bench.{Bench}
-use Rattle.bench.specs.declared.running.Ran.{Ran}
-use Rattle.bench.specs.declared.running.Begun.{Begun}
+use Rattle.bench.specs.declared.lists.Ran.{Ran}
+use Rattle.bench.specs.declared.lists.Begun.{Begun}
 use Rattle.bench.specs.Status.{soundCheck}
 use Rattle.bench.specs.Carry.{taken}
 

@@ -4,23 +4,23 @@ ghost use mathlib.Core.Path.{_≡_};
 ghost use Rattle.store.specs.Effects.{handedOf};
 ghost use Rattle.bench.specs.Status.{freshBench, paceOf, statusOf, rulesHold, benchSound, toldStatus, statusAt};
 ghost use Rattle.bench.specs.Carry.{verdictOf, outcomeOf, cameraAfter, carryOut, carryOutBytes};
-ghost use Rattle.bench.specs.Order.{orderOf, effectBy, carriedBy, surveyed};
+ghost use Rattle.bench.specs.Steps.{orderOf, effectBy, carriedBy, surveyed};
 ghost use Rattle.bench.specs.Second.{passedOf, stayedAt, executedAll, secondAt};
 
+mod lists;
 mod orders;
-mod running;
 
 use camera::Camera;
 use camera::Series;
 use frame::Frame;
 use frame::Pace;
+pub use lists::Begun;
+pub use lists::ROOM;
+pub use lists::Ran;
+pub use lists::code_of;
 use orders::Order;
 use orders::order_by;
 use orders::order_in;
-pub use running::Begun;
-pub use running::ROOM;
-pub use running::Ran;
-pub use running::code_of;
 use store::Denial;
 use store::Handed;
 use store::Store;
@@ -146,7 +146,7 @@ impl Bench {
             ygoal: camera.ygoal,
             power: camera.power,
             auto: camera.auto,
-            tracking: camera.tracking,
+            looping: camera.looping,
             algorithm: camera.algorithm,
             flushes: camera.flushes,
             running: store.running,

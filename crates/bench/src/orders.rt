@@ -1,6 +1,6 @@
 // What becomes of a command, by the tally of the macros alone: the verdict, and the command that then takes effect.
 ghost use mathlib.Core.Path.{_≡_};
-ghost use Rattle.bench.specs.Order.{inert, orderOf, orderPermitted, orderBy, orderIn};
+ghost use Rattle.bench.specs.Steps.{inert, orderOf, orderPermitted, orderBy, orderIn};
 use super::Verdict;
 use store::Permit;
 use store::Tally;

@@ -13,7 +13,7 @@ abbrev pub isOn : ℕ → Bool
 isOn mode = eqb mode 1
 
 abbrev pub cameraWith : Series → Series → ℕ → ℕ → ℕ → ℕ → Bool → Bool → Bool → ℕ → ℕ → Camera
-cameraWith image track x y xgoal ygoal power auto tracking algorithm flushes =
+cameraWith image track x y xgoal ygoal power auto looping algorithm flushes =
     record {
       image = image;
       track = track;
@@ -23,7 +23,7 @@ cameraWith image track x y xgoal ygoal power auto tracking algorithm flushes =
       ygoal = ygoal;
       power = power;
       auto = auto;
-      tracking = tracking;
+      looping = looping;
       algorithm = algorithm;
       flushes = flushes;
     }
@@ -33,36 +33,36 @@ freshCamera = cameraWith freshSeries freshSeries 0 0 0 0 false false false 0 0
 
 abbrev pub withSeries : Camera → Series → Series → Camera
 withSeries c image track =
-    cameraWith image track (c .x) (c .y) (c .xgoal) (c .ygoal) (c .power) (c .auto) (c .tracking) (c .algorithm) (c .flushes)
+    cameraWith image track (c .x) (c .y) (c .xgoal) (c .ygoal) (c .power) (c .auto) (c .looping) (c .algorithm) (c .flushes)
 
 abbrev pub withRegion : Camera → ℕ → ℕ → Camera
 withRegion c x y =
-    cameraWith (c .image) (c .track) x y (c .xgoal) (c .ygoal) (c .power) (c .auto) (c .tracking) (c .algorithm) (c .flushes)
+    cameraWith (c .image) (c .track) x y (c .xgoal) (c .ygoal) (c .power) (c .auto) (c .looping) (c .algorithm) (c .flushes)
 
 abbrev pub withGoal : Camera → ℕ → ℕ → Camera
 withGoal c xgoal ygoal =
-    cameraWith (c .image) (c .track) (c .x) (c .y) xgoal ygoal (c .power) (c .auto) (c .tracking) (c .algorithm) (c .flushes)
+    cameraWith (c .image) (c .track) (c .x) (c .y) xgoal ygoal (c .power) (c .auto) (c .looping) (c .algorithm) (c .flushes)
 
 abbrev pub withModes : Camera → Bool → Bool → Bool → ℕ → Camera
-withModes c power auto tracking algorithm =
-    cameraWith (c .image) (c .track) (c .x) (c .y) (c .xgoal) (c .ygoal) power auto tracking algorithm (c .flushes)
+withModes c power auto looping algorithm =
+    cameraWith (c .image) (c .track) (c .x) (c .y) (c .xgoal) (c .ygoal) power auto looping algorithm (c .flushes)
 
 abbrev pub withFlushes : Camera → ℕ → Camera
 withFlushes c flushes =
-    cameraWith (c .image) (c .track) (c .x) (c .y) (c .xgoal) (c .ygoal) (c .power) (c .auto) (c .tracking) (c .algorithm) flushes
+    cameraWith (c .image) (c .track) (c .x) (c .y) (c .xgoal) (c .ygoal) (c .power) (c .auto) (c .looping) (c .algorithm) flushes
 
 -- "Mode, region and goal commands set their fields. FLUSH adds 1 to an 8-bit count that wraps. IMAGE sets time T, interval I and "next" to 1 ..;
 -- TRACK does the same for its own series."
 abbrev pub executedOf : Camera → Kind → Camera
-executedOf c (Kind.ImgPwr mode) = withModes c (isOn mode) (c .auto) (c .tracking) (c .algorithm)
+executedOf c (Kind.ImgPwr mode) = withModes c (isOn mode) (c .auto) (c .looping) (c .algorithm)
 executedOf c (Kind.ImgRegion x y) = withRegion c x y
 executedOf c (Kind.ImgTrack time interval) = withSeries c (c .image) (startedOf (c .track) time interval)
-executedOf c (Kind.TrkAlg mode) = withModes c (c .power) (c .auto) (c .tracking) mode
+executedOf c (Kind.TrkAlg mode) = withModes c (c .power) (c .auto) (c .looping) mode
 executedOf c (Kind.TrkLoop mode) = withModes c (c .power) (c .auto) (isOn mode) (c .algorithm)
 executedOf c (Kind.ImgImage time interval) = withSeries c (startedOf (c .image) time interval) (c .track)
 executedOf c (Kind.TrkGoal x y) = withGoal c (toBits binary32 x) (toBits binary32 y)
 executedOf c Kind.TlmFlush = withFlushes c ((c .flushes + 1) % 256)
-executedOf c (Kind.FlushAuto mode) = withModes c (c .power) (isOn mode) (c .tracking) (c .algorithm)
+executedOf c (Kind.FlushAuto mode) = withModes c (c .power) (isOn mode) (c .looping) (c .algorithm)
 executedOf c (Kind.Open number) = c
 executedOf c Kind.Close = c
 executedOf c (Kind.Run number) = c

@@ -102,7 +102,7 @@ pub struct Camera {
     pub ygoal: u32,
     pub power: bool,
     pub auto: bool,
-    pub tracking: bool,
+    pub looping: bool,
     pub algorithm: u8,
     pub flushes: u8,
 }
@@ -121,7 +121,7 @@ impl Camera {
             ygoal: 0,
             power: false,
             auto: false,
-            tracking: false,
+            looping: false,
             algorithm: 0,
             flushes: 0,
         }
@@ -133,44 +133,49 @@ impl Camera {
     {
         let image = self.image;
         let track = self.track;
+        let mut next = self;
         match kind {
-            Kind::ImgPwr(mode) => Camera {
-                power: mode == 1,
-                ..self
-            },
-            Kind::ImgRegion(x, y) => Camera { x, y, ..self },
+            Kind::ImgPwr(mode) => {
+                next.power = mode == 1;
+                next
+            }
+            Kind::ImgRegion(x, y) => {
+                next.x = x;
+                next.y = y;
+                next
+            }
             Kind::ImgTrack(time, interval) => {
                 let track = track.started(time, interval);
-                Camera { track, ..self }
+                next.track = track;
+                next
             }
-            Kind::TrkAlg(mode) => Camera {
-                algorithm: mode,
-                ..self
-            },
-            Kind::TrkLoop(mode) => Camera {
-                tracking: mode == 1,
-                ..self
-            },
+            Kind::TrkAlg(mode) => {
+                next.algorithm = mode;
+                next
+            }
+            Kind::TrkLoop(mode) => {
+                next.looping = mode == 1;
+                next
+            }
             Kind::ImgImage(time, interval) => {
                 let image = image.started(time, interval);
-                Camera { image, ..self }
+                next.image = image;
+                next
             }
             Kind::TrkGoal(_, _) => {
                 let goal = wire::parts_of(kind);
-                Camera {
-                    xgoal: goal.first,
-                    ygoal: goal.second,
-                    ..self
-                }
+                next.xgoal = goal.first;
+                next.ygoal = goal.second;
+                next
             }
-            Kind::TlmFlush => Camera {
-                flushes: std::num::wrapping_add_u8(self.flushes, 1),
-                ..self
-            },
-            Kind::FlushAuto(mode) => Camera {
-                auto: mode == 1,
-                ..self
-            },
+            Kind::TlmFlush => {
+                next.flushes = std::num::wrapping_add_u8(self.flushes, 1);
+                next
+            }
+            Kind::FlushAuto(mode) => {
+                next.auto = mode == 1;
+                next
+            }
             Kind::Open(_) => self,
             Kind::Close => self,
             Kind::Run(_) => self,

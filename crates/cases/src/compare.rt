@@ -24,7 +24,7 @@ fn same_camera(a: Camera, b: Camera) -> bool {
         && a.ygoal == b.ygoal
         && a.power == b.power
         && a.auto == b.auto
-        && a.tracking == b.tracking
+        && a.looping == b.looping
         && a.algorithm == b.algorithm
         && a.flushes == b.flushes
 }

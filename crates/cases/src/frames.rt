@@ -115,7 +115,7 @@ fn fields(s: &[u8]) -> Frame {
         ygoal: words::word_at(s, 20),
         power: modes % 2 == 1,
         auto: modes / 2 % 2 == 1,
-        tracking: modes / 4 % 2 == 1,
+        looping: modes / 4 % 2 == 1,
         algorithm: modes / 16,
         flushes: words::byte_at(s, 25),
         running: words::byte_at(s, 26),

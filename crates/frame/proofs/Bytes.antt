@@ -64,7 +64,7 @@ joined e r = ap₂ (λ x y. x ++ y) e r
 pub words-bytes : (f : Frame) → Held f → bytesOf (frameWords f) ≡ frameBytes f
 unfolding bytesOf
 words-bytes f h =
-    let modes = modesOf (f .power) (f .auto) (f .tracking) (f .algorithm) in
+    let modes = modesOf (f .power) (f .auto) (f .looping) (f .algorithm) in
     let count : ones (f .closed) < 2 ^ 8 = omega (arith, ones-le 8 (f .closed) (h .closed)) in
     joined (two-halves (f .image .time) (f .image .interval) (h .image .interval))
     (joined (two-halves (f .track .time) (f .track .interval) (h .track .interval))

@@ -8,7 +8,8 @@ use lib.Dec.{leb, ltb, eqb}
 use borrow.Author.Tests.{lt-ltb, le-leb, eq-eqb, ne-eqb, ltb-true, leb-true, eqb-true, eqb-false, not-true}
 use Rattle.words.proofs.Tests.{both}
 use Rattle.wire.specs.declared.table.Form.{Form}
-use Rattle.wire.specs.Judge.{badOf}
+use Rattle.wire.specs.Table.{rowOf}
+use Rattle.wire.specs.Judge.{firstBad}
 use Rattle.frame.specs.declared.Frame.{Frame}
 use Rattle.frame.specs.declared.Pace.{Pace}
 use Rattle.frame.specs.Rules.{intervalsHold, rangesHold, macroOrNone, numbersHold, leftHolds, marked, marksHold, frameRule}
@@ -39,7 +40,7 @@ pub record Ruled (f : Frame) : Type 0 where
   pub track-interval : 1 ≤ f .track .interval
   pub x : f .x ≤ 1023
   pub y : f .y ≤ 1023
-  pub goal : badOf Form.TrkGoal (f .xgoal) (f .ygoal) ≡ 0
+  pub goal : firstBad (rowOf Form.TrkGoal) (f .xgoal) (f .ygoal) ≡ 0
   pub algorithm : f .algorithm ≤ 2
   pub running : (f .running < 8) ⊎ (f .running ≡ 255)
   pub opened : (f .opened < 8) ⊎ (f .opened ≡ 255)
@@ -70,20 +71,20 @@ within true true e = (refl, refl)
 within true false e = absurd (omega arith)
 within false b e = absurd (omega arith)
 
-pub region-within : (x y : ℕ) → badOf Form.ImgRegion x y ≡ 0 → (x ≤ 1023) × (y ≤ 1023)
+pub region-within : (x y : ℕ) → firstBad (rowOf Form.ImgRegion) x y ≡ 0 → (x ≤ 1023) × (y ≤ 1023)
 region-within x y e =
     let parts = within (leb 0 x && leb x 1023) (leb 0 y && leb y 1023) e in (
       leb-true x 1023 (both (leb 0 x) (leb x 1023) (parts .0) .1),
       leb-true y 1023 (both (leb 0 y) (leb y 1023) (parts .1) .1),
     )
 
-pub within-region : (x y : ℕ) → x ≤ 1023 → y ≤ 1023 → badOf Form.ImgRegion x y ≡ 0
+pub within-region : (x y : ℕ) → x ≤ 1023 → y ≤ 1023 → firstBad (rowOf Form.ImgRegion) x y ≡ 0
 within-region x y hx hy = simp (le-leb 0 x (omega arith), le-leb 0 y (omega arith), le-leb x 1023 hx, le-leb y 1023 hy)
 
-pub mode-within : (mode : ℕ) → badOf Form.TrkAlg mode 0 ≡ 0 → mode ≤ 2
+pub mode-within : (mode : ℕ) → firstBad (rowOf Form.TrkAlg) mode 0 ≡ 0 → mode ≤ 2
 mode-within mode e = leb-true mode 2 (both (leb 0 mode) (leb mode 2) (within (leb 0 mode && leb mode 2) true e .0) .1)
 
-pub within-mode : (mode : ℕ) → mode ≤ 2 → badOf Form.TrkAlg mode 0 ≡ 0
+pub within-mode : (mode : ℕ) → mode ≤ 2 → firstBad (rowOf Form.TrkAlg) mode 0 ≡ 0
 within-mode mode h = simp (le-leb 0 mode (omega arith), le-leb mode 2 h)
 
 -- A macro's number, or none.
@@ -148,12 +149,12 @@ ruled f e =
     let to-numbers = both (intervalsHold f && rangesHold f) (numbersHold f) (to-left .0) in
     let to-ranges = both (intervalsHold f) (rangesHold f) (to-numbers .0) in
     let intervals = both (leb 1 (f .image .interval)) (leb 1 (f .track .interval)) (to-ranges .0) in
-    let region = eqb (badOf Form.ImgRegion (f .x) (f .y)) 0 in
-    let goal = eqb (badOf Form.TrkGoal (f .xgoal) (f .ygoal)) 0 in
-    let mode = eqb (badOf Form.TrkAlg (f .algorithm) 0) 0 in
+    let region = eqb (firstBad (rowOf Form.ImgRegion) (f .x) (f .y)) 0 in
+    let goal = eqb (firstBad (rowOf Form.TrkGoal) (f .xgoal) (f .ygoal)) 0 in
+    let mode = eqb (firstBad (rowOf Form.TrkAlg) (f .algorithm) 0) 0 in
     let ranges = both (region && goal) mode (to-ranges .1) in
     let places = both region goal (ranges .0) in
-    let at = region-within (f .x) (f .y) (eqb-true (badOf Form.ImgRegion (f .x) (f .y)) 0 (places .0)) in
+    let at = region-within (f .x) (f .y) (eqb-true (firstBad (rowOf Form.ImgRegion) (f .x) (f .y)) 0 (places .0)) in
     let numbers = both (macroOrNone (f .running)) (macroOrNone (f .opened)) (to-numbers .1) in
     let lefts = both (Bool·beq (eqb (f .left) 0) (eqb (f .running) 255)) (leb (f .left) 600) (to-left .1) in
     let ends : eqb (f .left) 0 ≡ eqb (f .running) 255 = same (eqb (f .left) 0) (eqb (f .running) 255) (lefts .0) in
@@ -163,8 +164,8 @@ ruled f e =
       track-interval = leb-true 1 (f .track .interval) (intervals .1);
       x = at .0;
       y = at .1;
-      goal = eqb-true (badOf Form.TrkGoal (f .xgoal) (f .ygoal)) 0 (places .1);
-      algorithm = mode-within (f .algorithm) (eqb-true (badOf Form.TrkAlg (f .algorithm) 0) 0 (ranges .1));
+      goal = eqb-true (firstBad (rowOf Form.TrkGoal) (f .xgoal) (f .ygoal)) 0 (places .1);
+      algorithm = mode-within (f .algorithm) (eqb-true (firstBad (rowOf Form.TrkAlg) (f .algorithm) 0) 0 (ranges .1));
       running = number (f .running) (numbers .0);
       opened = number (f .opened) (numbers .1);
       idle-ended = exactly (f .running) 255 (f .left) 0 (sym ends);
@@ -181,12 +182,12 @@ obeyed f r =
     let intervals : intervalsHold f ≡ true =
     simp (le-leb 1 (f .image .interval) (r .image-interval), le-leb 1 (f .track .interval) (r .track-interval))
     in
-    let region : eqb (badOf Form.ImgRegion (f .x) (f .y)) 0 ≡ true =
-    eq-eqb (badOf Form.ImgRegion (f .x) (f .y)) 0 (within-region (f .x) (f .y) (r .x) (r .y))
+    let region : eqb (firstBad (rowOf Form.ImgRegion) (f .x) (f .y)) 0 ≡ true =
+    eq-eqb (firstBad (rowOf Form.ImgRegion) (f .x) (f .y)) 0 (within-region (f .x) (f .y) (r .x) (r .y))
     in
-    let goal : eqb (badOf Form.TrkGoal (f .xgoal) (f .ygoal)) 0 ≡ true = eq-eqb (badOf Form.TrkGoal (f .xgoal) (f .ygoal)) 0 (r .goal) in
-    let mode : eqb (badOf Form.TrkAlg (f .algorithm) 0) 0 ≡ true =
-    eq-eqb (badOf Form.TrkAlg (f .algorithm) 0) 0 (within-mode (f .algorithm) (r .algorithm))
+    let goal : eqb (firstBad (rowOf Form.TrkGoal) (f .xgoal) (f .ygoal)) 0 ≡ true = eq-eqb (firstBad (rowOf Form.TrkGoal) (f .xgoal) (f .ygoal)) 0 (r .goal) in
+    let mode : eqb (firstBad (rowOf Form.TrkAlg) (f .algorithm) 0) 0 ≡ true =
+    eq-eqb (firstBad (rowOf Form.TrkAlg) (f .algorithm) 0) 0 (within-mode (f .algorithm) (r .algorithm))
     in
     let numbers : numbersHold f ≡ true = simp (number-back (f .running) (r .running), number-back (f .opened) (r .opened)) in
     let ends : eqb (f .left) 0 ≡ eqb (f .running) 255 = together (f .left) 0 (f .running) 255 (r .ended-idle) (r .idle-ended) in

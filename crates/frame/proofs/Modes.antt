@@ -13,5 +13,5 @@ bit-le true = omega arith
 pub is-bit : {r : ℕ} (on : Bool) → r ≡ bit on → r ≤ 1
 is-bit {r} on e = omega (arith, e, bit-le on)
 
-pub modes-le : (power auto tracking : Bool) (algorithm : ℕ) → algorithm ≤ 2 → modesOf power auto tracking algorithm ≤ 39
-modes-le power auto tracking algorithm h = omega (arith, bit-le power, bit-le auto, bit-le tracking)
+pub modes-le : (power auto looping : Bool) (algorithm : ℕ) → algorithm ≤ 2 → modesOf power auto looping algorithm ≤ 39
+modes-le power auto looping algorithm h = omega (arith, bit-le power, bit-le auto, bit-le looping)

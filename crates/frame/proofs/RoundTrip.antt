@@ -34,32 +34,32 @@ bit-back : (on : Bool) → eqb (bit on) 1 ≡ on
 bit-back false = refl
 bit-back true = refl
 
-module _ (power auto tracking : Bool) (algorithm : ℕ) (in-range : algorithm ≤ 2) where
+module _ (power auto looping : Bool) (algorithm : ℕ) (in-range : algorithm ≤ 2) where
   abbrev modes : ℕ
-  modes = modesOf power auto tracking algorithm
+  modes = modesOf power auto looping algorithm
 
   power-back : eqb (modes % 2) 1 ≡ power
   power-back =
-      let low : modes % 2 ≡ bit power = omega (arith, bit-le power, bit-le auto, bit-le tracking) in
+      let low : modes % 2 ≡ bit power = omega (arith, bit-le power, bit-le auto, bit-le looping) in
       rw low (bit-back power)
 
   auto-back : eqb (modes / 2 % 2) 1 ≡ auto
   auto-back =
-      let low : modes / 2 % 2 ≡ bit auto = omega (arith, bit-le power, bit-le auto, bit-le tracking) in
+      let low : modes / 2 % 2 ≡ bit auto = omega (arith, bit-le power, bit-le auto, bit-le looping) in
       rw low (bit-back auto)
 
-  tracking-back : eqb (modes / 4 % 2) 1 ≡ tracking
-  tracking-back =
-      let low : modes / 4 % 2 ≡ bit tracking = omega (arith, bit-le power, bit-le auto, bit-le tracking) in
-      rw low (bit-back tracking)
+  looping-back : eqb (modes / 4 % 2) 1 ≡ looping
+  looping-back =
+      let low : modes / 4 % 2 ≡ bit looping = omega (arith, bit-le power, bit-le auto, bit-le looping) in
+      rw low (bit-back looping)
 
   algorithm-back : modes / 16 % 4 ≡ algorithm
-  algorithm-back = omega (arith, bit-le power, bit-le auto, bit-le tracking)
+  algorithm-back = omega (arith, bit-le power, bit-le auto, bit-le looping)
 
   spare-back : (eqb (modes / 8 % 2) 0 && eqb (modes / 64) 0) ≡ true
   spare-back =
-      let third : modes / 8 % 2 ≡ 0 = omega (arith, bit-le power, bit-le auto, bit-le tracking) in
-      let top : modes / 64 ≡ 0 = omega (arith, bit-le power, bit-le auto, bit-le tracking) in
+      let third : modes / 8 % 2 ≡ 0 = omega (arith, bit-le power, bit-le auto, bit-le looping) in
+      let top : modes / 64 ≡ 0 = omega (arith, bit-le power, bit-le auto, bit-le looping) in
       rw (third, top)
 
 -- The fields that a frame's bytes say are the frame's.
@@ -67,14 +67,14 @@ frame-back : (f : Frame) → f .algorithm ≤ 2 → frameAt (frameBytes f) ≡ f
 frame-back f h =
     let p = f .power in
     let a = f .auto in
-    let t = f .tracking in
+    let t = f .looping in
     let g = f .algorithm in
     simp (
       half-back,
       word-back,
       power-back p a t g h,
       auto-back p a t g h,
-      tracking-back p a t g h,
+      looping-back p a t g h,
       algorithm-back p a t g h,
     )
 
@@ -92,7 +92,7 @@ frame-length f = refl
 pub read-written : (f : Frame) → frameRule f ≡ true → readOf (frameBytes f) ≡ takenAs f
 read-written f e =
     let h = ruled f e .algorithm in
-    let spare : spareBitsZero (frameBytes f) ≡ true = spare-back (f .power) (f .auto) (f .tracking) (f .algorithm) h in
+    let spare : spareBitsZero (frameBytes f) ≡ true = spare-back (f .power) (f .auto) (f .looping) (f .algorithm) h in
     let count : countHolds (frameBytes f) ≡ true = eq-eqb (ones (f .closed)) (ones (f .closed)) refl in
     sym (taken (frameBytes f) f (frame-length f) spare count (sym (frame-back f h)) e)
 
@@ -108,7 +108,7 @@ all-bytes (v ∷ s) all (suc i) = all-bytes s (all .1) i
 
 pub written-bytes : (f : Frame) → Held f → frameRule f ≡ true → Bytes (frameBytes f)
 written-bytes f h e =
-    let modes = modes-le (f .power) (f .auto) (f .tracking) (f .algorithm) (ruled f e .algorithm) in
+    let modes = modes-le (f .power) (f .auto) (f .looping) (f .algorithm) (ruled f e .algorithm) in
     let count = ones-le 8 (f .closed) (h .closed) in
     all-bytes (frameBytes f) (omega arith)
 

@@ -15,7 +15,7 @@ bit true = 1
 
 -- Byte 24: bit 0 power, bit 1 auto flush, bit 2 loop, bits 4-5 algorithm, rest 0.
 abbrev pub modesOf : Bool → Bool → Bool → ℕ → ℕ
-modesOf power auto tracking algorithm = bit power + bit auto * 2 + bit tracking * 4 + algorithm * 16
+modesOf power auto looping algorithm = bit power + bit auto * 2 + bit looping * 4 + algorithm * 16
 
 -- The 32 bytes of a frame, in their order.
 abbrev pub frameBytes : Frame → List ℕ
@@ -30,7 +30,7 @@ frameBytes f =
     ++ halfBytes (f .y)
     ++ wordBytes (f .xgoal)
     ++ wordBytes (f .ygoal)
-    ++ (modesOf (f .power) (f .auto) (f .tracking) (f .algorithm) ∷ f .flushes ∷ f .running ∷ f .opened ∷ [])
+    ++ (modesOf (f .power) (f .auto) (f .looping) (f .algorithm) ∷ f .flushes ∷ f .running ∷ f .opened ∷ [])
     ++ halfBytes (f .left)
     ++ (f .closed ∷ ones (f .closed) ∷ [])
 
@@ -50,7 +50,7 @@ frameAt s =
       ygoal = wordAt s 20;
       power = eqb (byteAt s 24 % 2) 1;
       auto = eqb (byteAt s 24 / 2 % 2) 1;
-      tracking = eqb (byteAt s 24 / 4 % 2) 1;
+      looping = eqb (byteAt s 24 / 4 % 2) 1;
       algorithm = byteAt s 24 / 16 % 4;
       flushes = byteAt s 25;
       running = byteAt s 26;
@@ -69,7 +69,7 @@ countHolds s = eqb (byteAt s 31) (ones (byteAt s 30))
 
 -- Bytes 24 to 27, and bytes 28 to 31, each as one number.
 abbrev pub modesWord : Frame → ℕ
-modesWord f = modesOf (f .power) (f .auto) (f .tracking) (f .algorithm) * 16777216 + f .flushes * 65536 + f .running * 256 + f .opened
+modesWord f = modesOf (f .power) (f .auto) (f .looping) (f .algorithm) * 16777216 + f .flushes * 65536 + f .running * 256 + f .opened
 
 abbrev pub macrosWord : Frame → ℕ
 macrosWord f = f .left * 65536 + f .closed * 256 + ones (f .closed)

@@ -4,7 +4,8 @@ use Prim.Native.Nat.{ℕ, _/_, _%_, _^_}
 use mathlib.Core.Bool.{Bool, not, _&&_, _||_, Bool·beq}
 use lib.Dec.{leb, ltb, eqb}
 use Rattle.wire.specs.declared.table.Form.{Form}
-use Rattle.wire.specs.Judge.{badOf}
+use Rattle.wire.specs.Table.{rowOf}
+use Rattle.wire.specs.Judge.{firstBad}
 use Rattle.frame.specs.declared.Frame.{Frame}
 
 -- "intervals at least 1"
@@ -14,9 +15,9 @@ intervalsHold f = leb 1 (f .image .interval) && leb 1 (f .track .interval)
 -- "X and Y, goal and algorithm in range": the limits of the commands that set them.
 abbrev pub rangesHold : Frame → Bool
 rangesHold f =
-    eqb (badOf Form.ImgRegion (f .x) (f .y)) 0
-    && eqb (badOf Form.TrkGoal (f .xgoal) (f .ygoal)) 0
-    && eqb (badOf Form.TrkAlg (f .algorithm) 0) 0
+    eqb (firstBad (rowOf Form.ImgRegion) (f .x) (f .y)) 0
+    && eqb (firstBad (rowOf Form.TrkGoal) (f .xgoal) (f .ygoal)) 0
+    && eqb (firstBad (rowOf Form.TrkAlg) (f .algorithm) 0) 0
 
 -- A macro's number, or 255 for none.
 abbrev pub macroOrNone : ℕ → Bool

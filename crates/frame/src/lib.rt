@@ -1,6 +1,9 @@
 // The status frame of 32 bytes: its fields, the rules on them, reading (22, then 23) and writing (23, then 24).
 ghost use Prim.Native.Nat.{_+_, _*_, _≤_};
 ghost use mathlib.Core.Path.{_≡_};
+ghost use lib.Dec.{eqb};
+ghost use Rattle.wire.specs.Table.{rowOf};
+ghost use Rattle.wire.specs.Judge.{firstBad};
 ghost use Rattle.frame.specs.Rules.{intervalsHold, rangesHold, macroOrNone, numbersHold, leftHolds, marked, marksHold, frameRule};
 ghost use Rattle.frame.specs.Bytes.{bit, modesOf, modesWord, macrosWord, paceAt, frameAt, spareBitsZero, countHolds};
 ghost use Rattle.frame.specs.Answers.{codeOf, answerOf, readOf, wroteOf, writeCode, roomAfter};
@@ -23,7 +26,7 @@ pub struct Frame {
     pub ygoal: u32,
     pub power: bool,
     pub auto: bool,
-    pub tracking: bool,
+    pub looping: bool,
     pub algorithm: u8,
     pub flushes: u8,
     pub running: u8,
@@ -77,16 +80,23 @@ fn intervals_hold(f: Frame) -> bool
     1 <= f.track.interval
 }
 
+// Would a command of this form have both arguments in range?
+fn in_range(form: Form, first: u32, second: u32) -> bool
+    ensures { λ r. ⌜ r ≡ eqb (firstBad (rowOf form) first second) 0 ⌝ }
+{
+    wire::first_bad(wire::row_of(form), first, second) == 0
+}
+
 fn ranges_hold(f: Frame) -> bool
     ensures { λ r. ⌜ r ≡ rangesHold f ⌝ }
 {
-    if wire::first_bad(Form::ImgRegion, f.x as u32, f.y as u32) != 0 {
+    if !in_range(Form::ImgRegion, f.x as u32, f.y as u32) {
         return false;
     }
-    if wire::first_bad(Form::TrkGoal, f.xgoal, f.ygoal) != 0 {
+    if !in_range(Form::TrkGoal, f.xgoal, f.ygoal) {
         return false;
     }
-    wire::first_bad(Form::TrkAlg, f.algorithm as u32, 0) == 0
+    in_range(Form::TrkAlg, f.algorithm as u32, 0)
 }
 
 fn macro_or_none(m: u8) -> bool
@@ -189,7 +199,7 @@ fn frame_at(s: &[u8]) -> Frame
         ygoal: words::word_at(s, 20),
         power: modes % 2 == 1,
         auto: modes / 2 % 2 == 1,
-        tracking: modes / 4 % 2 == 1,
+        looping: modes / 4 % 2 == 1,
         algorithm: modes / 16 % 4,
         flushes: words::byte_at(s, 25),
         running: words::byte_at(s, 26),
@@ -254,9 +264,9 @@ fn pair(high: u16, low: u16) -> u32
 // Byte 24.
 fn modes_of(f: Frame) -> u32
     requires { ⌜ f .algorithm ≤ 2 ⌝ }
-    ensures { λ r. ⌜ r ≡ modesOf (f .power) (f .auto) (f .tracking) (f .algorithm) ⌝ }
+    ensures { λ r. ⌜ r ≡ modesOf (f .power) (f .auto) (f .looping) (f .algorithm) ⌝ }
 {
-    bit_of(f.power) + bit_of(f.auto) * 2 + bit_of(f.tracking) * 4 + (f.algorithm as u32) * 16
+    bit_of(f.power) + bit_of(f.auto) * 2 + bit_of(f.looping) * 4 + (f.algorithm as u32) * 16
 }
 
 // Bytes 24 to 27 as one number.

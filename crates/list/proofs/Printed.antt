@@ -17,7 +17,7 @@ use Rattle.wire.specs.Write.{commandBytes}
 use Rattle.walk.specs.Walk.{rests}
 use Rattle.walk.proofs.Rests.{rests-512}
 use Rattle.bench.specs.declared.Bench.{Bench}
-use Rattle.bench.specs.declared.running.Ran.{Ran}
+use Rattle.bench.specs.declared.lists.Ran.{Ran}
 use Rattle.bench.specs.Run.{ranOf, begunCode, runOf, runRests, kitPart, reportOf, roomAfter}
 use Rattle.bench.specs.Status.{freshBench}
 use Rattle.bench.proofs.Sound.{fresh-sound}

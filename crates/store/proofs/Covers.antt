@@ -16,7 +16,7 @@ use Rattle.store.specs.declared.lookup.Covering.{Covering}
 use Rattle.store.specs.Roles.{roleOf}
 use Rattle.store.specs.Slots.{isClosed, entriesOf}
 use Rattle.store.specs.WrittenOut.{writtenOut, entryAt}
-use Rattle.store.specs.Lookup.{Asked, TellsBelow, runSpan, spanIn, coverAs, coverIn}
+use Rattle.store.specs.LookupSteps.{Asked, TellsBelow, runSpan, spanIn, coverAs, coverIn}
 use Rattle.store.proofs.Lengths.{partAs, partsOf, look, span-told, written-parts, written-none}
 
 -- One turn of the search: the second is in this entry, or in the rest so much earlier; where there are no entries, nothing covers it.

@@ -10,14 +10,15 @@ use borrow.Author.Tests.{eqb-true, eqb-false}
 use Rattle.wire.specs.declared.kinds.Kind.{Kind}
 use Rattle.wire.specs.declared.kinds.Command.{Command}
 use Rattle.wire.specs.declared.table.Form.{Form}
-use Rattle.wire.specs.Judge.{badOf, judgeCode}
+use Rattle.wire.specs.Table.{rowOf}
+use Rattle.wire.specs.Judge.{firstBad, judgeCode}
 use Rattle.store.specs.declared.Store.{Store}
 use Rattle.store.specs.declared.roles.Role.{Role}
 use Rattle.store.specs.Roles.{roleOf}
 use Rattle.store.specs.Slots.{isClosed, entriesOf}
 use Rattle.store.specs.WrittenOut.{expandAs, expand, flatBelow, flat, handOver, seconds, writtenOut}
 use Rattle.store.specs.Effects.{nextEntry}
-use Rattle.store.proofs.Frame.{Each, lookBelow, flat-at, flat-other}
+use Rattle.store.proofs.WrittenOut.{Each, lookBelow, flat-at, flat-other}
 use Rattle.store.proofs.Sound.{TargetBelow, SoundEntry, Good, closed-small}
 use Rattle.store.proofs.Running.{closed-lasts}
 
@@ -66,7 +67,7 @@ appendable (Kind.ImgImage time interval) h = tt
 appendable (Kind.TrkGoal x y) h = tt
 appendable Kind.TlmFlush h = tt
 appendable (Kind.FlushAuto mode) h = tt
-appendable (Kind.Open number) h = never (not (eqb (badOf Form.Open number 0) 0)) h
+appendable (Kind.Open number) h = never (not (eqb (firstBad (rowOf Form.Open) number 0) 0)) h
 appendable Kind.Close h = never false h
 appendable (Kind.Run number) h = tt
 appendable (Kind.Wait seconds) h = tt

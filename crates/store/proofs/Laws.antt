@@ -14,7 +14,7 @@ use Rattle.words.proofs.Tests.{both}
 use Rattle.store.specs.declared.roles.Role.{Role}
 use Rattle.store.specs.Roles.{isOpen, isClose, isRun, isClear}
 use Rattle.store.specs.Slots.{bit}
-use Rattle.store.specs.Tally.{hasSlot}
+use Rattle.store.specs.TallySteps.{hasSlot}
 use Rattle.store.proofs.roles.Role.{the-type}
 
 -- Past the end of a list nothing is read, and nothing is written.

@@ -1,6 +1,6 @@
 -- Laws of the macro store, in two groups: what a reader of this crate wants to know (what a written-out list is, that soundness is kept, what a
 -- running macro hands over, that results are unique), and the laws behind single functions.
-pub mod Frame
+pub mod WrittenOut
 pub mod Sound
 pub mod Running
 pub mod Handed

@@ -19,7 +19,7 @@ use Rattle.store.specs.Slots.{countOf, isClosed, entriesOf, kept}
 use Rattle.store.specs.WrittenOut.{writtenOut, cappedLength, entryAt}
 use Rattle.store.specs.Checks.{permitCode}
 use Rattle.store.specs.Effects.{startedOf, executedAs, appliedOf, nextEntry, afterSecond, countedDown}
-use Rattle.store.proofs.Frame.{writtenAs, partOf, written-last, as-frame, written-is}
+use Rattle.store.proofs.WrittenOut.{writtenAs, partOf, written-last, as-frame, written-is}
 use Rattle.store.proofs.Sound.{Good, Extends, extends-self, Passed, none-runs, closed-small, lists-stay, runs-extends}
 use Rattle.store.proofs.Sound.{opened-extends, closed-extends, kept-extends, kept-own, appends, applied-executed, executed-passed}
 

@@ -23,8 +23,8 @@ use Rattle.store.specs.Checks.{row11, row12, row13, row14, row15, row16,
 use Rattle.store.specs.Effects.{storeWith, freshSlots, freshStore, appendedOf, openedOf, closedOf, startedOf}
 use Rattle.store.specs.Effects.{stoppedOf, clearedOf, executedAs, appliedOf, countedDown, afterSecond}
 use Rattle.store.specs.Sound.{allBelow, allOf, runHolds, entryHolds, entriesHold, closedHolds, openHolds, macroHolds, runningHolds, storeSound}
-use Rattle.store.proofs.Frame.{Each, TargetIn, RunsIn, written-grown, writtenAs, partOf}
-use Rattle.store.proofs.Frame.{written-is, written-append, part-run, part-wait, part-other}
+use Rattle.store.proofs.WrittenOut.{Each, TargetIn, RunsIn, written-grown, writtenAs, partOf}
+use Rattle.store.proofs.WrittenOut.{written-is, written-append, part-run, part-wait, part-other}
 
 -- A RUN's target is closed and below macro m; any other role has no target.
 abbrev pub TargetBelow : Store → ℕ → Role → Type 0

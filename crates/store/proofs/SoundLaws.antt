@@ -16,7 +16,7 @@ use Rattle.wire.specs.Judge.{toldOf, toldJudged, judged, judgeCode}
 use Rattle.store.specs.declared.Store.{Store}
 use Rattle.store.specs.Slots.{countOf, isClosed}
 use Rattle.store.specs.WrittenOut.{writtenOut, cappedLength}
-use Rattle.store.specs.Lookup.{TellsBelow}
+use Rattle.store.specs.LookupSteps.{TellsBelow}
 use Rattle.store.specs.Sound.{allBelow, allOf, closedHolds, macroHolds, runningHolds, entriesHold}
 
 -- A command passes 8 to 10 exactly where the wire's judgement allows it: no refusal has the code 0.

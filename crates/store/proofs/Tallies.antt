@@ -17,11 +17,11 @@ use Rattle.store.specs.declared.tally.Tally.{Tally}
 use Rattle.store.specs.Roles.{roleOf}
 use Rattle.store.specs.Slots.{isClosed, entriesOf, kept}
 use Rattle.store.specs.WrittenOut.{flat, writtenOut, cappedLength, lengthsTo}
-use Rattle.store.specs.Lookup.{spanIn}
+use Rattle.store.specs.LookupSteps.{spanIn}
 use Rattle.store.specs.Checks.{permitCode}
 use Rattle.store.specs.Effects.{openedOf, closedOf, clearedOf, executedAs, appliedOf}
-use Rattle.store.specs.Tally.{tallyOf, storeOf, tallyCode, hasSlot, appendedBy, executedBy, tallyAfter, entriesAfter, Tallied}
-use Rattle.store.proofs.Frame.{partOf, written-is, written-none, part-run, part-wait, part-other}
+use Rattle.store.specs.TallySteps.{tallyOf, storeOf, tallyCode, hasSlot, appendedBy, executedBy, tallyAfter, entriesAfter, Tallied}
+use Rattle.store.proofs.WrittenOut.{partOf, written-is, written-none, part-run, part-wait, part-other}
 use Rattle.store.proofs.Sound.{TargetBelow, Shaped, Good, closed-small, Extends, list-stays, lists-stay, Passed, InRange, judged-role}
 use Rattle.store.proofs.Sound.{runningAs, opened-extends, closed-extends, kept-extends, Appends, appends, applied-executed, executed-passed}
 use Rattle.store.proofs.Running.{kept-written}

@@ -12,7 +12,7 @@ use Rattle.store.specs.declared.lookup.Handed.{Handed}
 use Rattle.store.specs.declared.Step.{Step}
 use Rattle.store.specs.Checks.{codeOf, toldPermit}
 use Rattle.store.specs.Effects.{handedOf}
-use Rattle.store.specs.Second.{Stepped, stepWith, stepOf}
+use Rattle.store.specs.SecondSteps.{Stepped, stepWith, stepOf}
 
 -- The permit of a code: 0 is permission.
 denialOf : ℕ → Denial

@@ -2,10 +2,10 @@
 pub mod Roles
 pub mod Slots
 pub mod WrittenOut
-pub mod Lookup
+pub mod LookupSteps
 pub mod Checks
 pub mod Effects
 pub mod Fits
 pub mod Sound
-pub mod Tally
-pub mod Second
+pub mod TallySteps
+pub mod SecondSteps

@@ -6,8 +6,8 @@ ghost use lib.Dec.{eqb};
 ghost use Rattle.store.specs.Slots.{marksOf};
 ghost use Rattle.store.specs.Effects.{freshSlots, freshStore};
 ghost use Rattle.store.specs.Sound.{storeSound};
-ghost use Rattle.store.specs.Tally.{storeOf, surveyOf};
-ghost use Rattle.store.specs.Second.{stepWith, stepOf, steppedOf};
+ghost use Rattle.store.specs.TallySteps.{storeOf, surveyOf};
+ghost use Rattle.store.specs.SecondSteps.{stepWith, stepOf, steppedOf};
 
 mod checks;
 mod lookup;

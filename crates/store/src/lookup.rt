@@ -6,7 +6,7 @@ ghost use mathlib.Core.List.{[]};
 ghost use lib.ListN.{getD};
 ghost use Rattle.store.specs.Slots.{entriesOf};
 ghost use Rattle.store.specs.WrittenOut.{writtenOut, cappedLength, entryAt, lengthsTo};
-ghost use Rattle.store.specs.Lookup.{Asked, runSpan, spanIn, spansIn, coverAs, coverIn};
+ghost use Rattle.store.specs.LookupSteps.{Asked, runSpan, spanIn, spansIn, coverAs, coverIn};
 ghost use Rattle.store.specs.Effects.{handedOf};
 use super::ENTRIES;
 use super::MACROS;

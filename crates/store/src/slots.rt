@@ -4,7 +4,7 @@ ghost use mathlib.Core.Path.{_≡_};
 ghost use mathlib.Core.Bool.{true, false};
 ghost use lib.ListN.{getD, set};
 ghost use Rattle.store.specs.Slots.{slotAt, bit, marksOf};
-ghost use Rattle.store.specs.Tally.{hasSlot};
+ghost use Rattle.store.specs.TallySteps.{hasSlot};
 use super::ENTRIES;
 use super::MACROS;
 

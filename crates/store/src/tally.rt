@@ -3,7 +3,7 @@
 ghost use Prim.Native.Nat.{_<_};
 ghost use mathlib.Core.Path.{_≡_};
 ghost use Rattle.store.specs.Checks.{toldPermit};
-ghost use Rattle.store.specs.Tally.{tallyCode, nextSlot, appendedBy, executedBy, tallyAfter};
+ghost use Rattle.store.specs.TallySteps.{tallyCode, nextSlot, appendedBy, executedBy, tallyAfter};
 use super::NONE;
 use super::checks;
 use super::checks::Denial;

@@ -60,8 +60,8 @@ fn with_bit(sum: u64, on: bool) -> u64 {
 fn with_modes(sum: u64, f: Frame) -> u64 {
     let power = with_bit(sum, f.power);
     let auto = with_bit(power, f.auto);
-    let tracking = with_bit(auto, f.tracking);
-    mixed(mixed(tracking, f.algorithm as u64), f.flushes as u64)
+    let looping = with_bit(auto, f.looping);
+    mixed(mixed(looping, f.algorithm as u64), f.flushes as u64)
 }
 
 fn read_one(sum: u64, bytes: &[u8]) -> u64 {
@@ -186,7 +186,7 @@ fn idle_frame() -> Frame {
         ygoal: 0,
         power: false,
         auto: false,
-        tracking: false,
+        looping: false,
         algorithm: 0,
         flushes: 0,
         running: 255,

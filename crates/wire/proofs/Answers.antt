@@ -25,7 +25,7 @@ use Rattle.wire.proofs.Layouts.{judged-fields}
 use Rattle.wire.specs.Codes.{Check, _when_, firstOf}
 use Rattle.wire.specs.Table.{rowOf, ruleOf}
 use Rattle.wire.specs.Kind.{kindOf}
-use Rattle.wire.specs.Judge.{toldWith, toldOf, toldJudged, judgedBy, judgeCode, judged, parFor}
+use Rattle.wire.specs.Judge.{toldWith, toldOf, toldJudged, judgedBy, judgeCode, judged, firstBadIn, parOf}
 use Rattle.wire.specs.Read.{Answer, answerOf, answerFor, fieldsOf, commandAs, decodeChecks, decodedAs, decoded, formIn, opcodeOf, lengthOf, sumOf}
 use Rattle.wire.specs.Read.{thirdWord, readWhole, commandIn, Reached, reachOf, reachCode, reachAt, reachChecks, wholeChecks, readCode, readOf, spanOf}
 
@@ -48,12 +48,12 @@ refusal-code Refusal.FlagMissing = refl
 refusal-code Refusal.NoRoom = refl
 
 -- What was told of a command is the answer to it: a refusal hands over nothing, and acceptance hands the command over.
-pub refused : (r : Refusal) (code : ℕ) (c : Command) → toldOf r ≡ toldWith code (parFor code c) → refusedBy (toldOf r) ≡ answerFor code c
+pub refused : (r : Refusal) (code : ℕ) (c : Command) → toldOf r ≡ toldWith code (parOf code (firstBadIn c)) → refusedBy (toldOf r) ≡ answerFor code c
 refused r code c e =
     let other : eqb code 0 ≡ false = rw (ap (λ (t : Told). t .code) e) at (refusal-code r) in
     rw (e, other)
 
-pub allowed : (code : ℕ) (c : Command) → toldWith 0 0 ≡ toldWith code (parFor code c) → record { told = toldWith 0 0; taken = c ∷ [] } ≡ answerFor code c
+pub allowed : (code : ℕ) (c : Command) → toldWith 0 0 ≡ toldWith code (parOf code (firstBadIn c)) → record { told = toldWith 0 0; taken = c ∷ [] } ≡ answerFor code c
 allowed code c e = rw (← ap (λ (t : Told). t .code) e)
 
 -- Rows 7 to 10, from what the code holds: the row of the form, the fields by its layout, the judgement on them and the kind made of them.

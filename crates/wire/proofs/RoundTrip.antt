@@ -22,7 +22,7 @@ use Rattle.wire.specs.declared.kinds.Parts.{Parts}
 use Rattle.wire.specs.declared.decoding.Fields.{Fields}
 use Rattle.wire.specs.Table.{rowOf, ruleOf}
 use Rattle.wire.specs.Kind.{partsWith, partsOf, kindOf}
-use Rattle.wire.specs.Judge.{toldWith, inLimits, badOf, badIn, argChecks, judgeCode}
+use Rattle.wire.specs.Judge.{toldWith, inLimits, firstBad, firstBadIn, argChecks, judgeCode}
 use Rattle.wire.specs.Read.{answerFor, fieldsWith, fieldsOf, opcodeOf, flagOf, lengthOf, sumOf, thirdWord, commandAs, commandIn, formIn}
 use Rattle.wire.specs.Read.{decodeChecks, readWhole, reachCode, readChecks, readCode, readOf, spanOf}
 use Rattle.wire.specs.Write.{headOf, packedOf, closed, wordsOf, commandBytes}
@@ -234,14 +234,14 @@ passed true false e = absurd (omega arith)
 passed false b e = absurd (omega arith)
 
 goal-pair : (one two : ℕ) → one < 2 ^ 32 → two < 2 ^ 32
-    → badOf Form.TrkGoal (toBits binary32 (ofBits binary32 one)) (toBits binary32 (ofBits binary32 two)) ≡ 0
+    → firstBad (rowOf Form.TrkGoal) (toBits binary32 (ofBits binary32 one)) (toBits binary32 (ofBits binary32 two)) ≡ 0
     → BitsIn Layout.Singles one two
 goal-pair one two h k ok =
     let within = passed (inLimits Layout.Singles 0 0x447fffff (toBits binary32 (ofBits binary32 one)))
     (inLimits Layout.Singles 0 0x447fffff (toBits binary32 (ofBits binary32 two))) ok in
     (goal-bits one h (within .0), goal-bits two k (within .1))
 
-bits-in : (form : Form) (flag : Bool) (one two : ℕ) → one < 2 ^ 32 → two < 2 ^ 32 → badIn (commandAs form flag one two) ≡ 0
+bits-in : (form : Form) (flag : Bool) (one two : ℕ) → one < 2 ^ 32 → two < 2 ^ 32 → firstBadIn (commandAs form flag one two) ≡ 0
     → BitsIn (rowOf form .layout) one two
 bits-in Form.ImgPwr flag one two h k ok = tt
 bits-in Form.ImgRegion flag one two h k ok = tt
@@ -354,8 +354,8 @@ module _ (s : List ℕ) (bytes : Bytes s) (read : readCode s ≡ 0) where
   abbrev command : Command
   command = commandAs (p .form) (flagOf s) (wordAt s 4) third
 
-  in-limits : badIn command ≡ 0
-  in-limits = alike (badIn command) 0 (judge-order command .accepted .0 (p .judged) .0)
+  in-limits : firstBadIn command ≡ 0
+  in-limits = alike (firstBadIn command) 0 (judge-order command .accepted .0 (p .judged) .0)
 
   parts-are : partsOf (command .kind) ≡ partsWith (p .form) (fields .first) (fields .second)
   parts-are =

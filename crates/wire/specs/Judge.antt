@@ -3,7 +3,6 @@ use Prim.Native.Nat.{ℕ}
 use mathlib.Core.List.{List, [], _∷_}
 use mathlib.Core.Bool.{Bool, true, false, cond, not, _&&_, _||_}
 use lib.Dec.{leb, eqb}
-use Rattle.wire.specs.declared.table.Form.{Form}
 use Rattle.wire.specs.declared.table.Layout.{Layout}
 use Rattle.wire.specs.declared.table.FlagRule.{FlagRule}
 use Rattle.wire.specs.declared.table.Row.{Row}
@@ -49,15 +48,11 @@ abbrev pub inLimits : Layout → ℕ → ℕ → ℕ → Bool
 inLimits layout low high value = minusZero layout value || (leb low value && leb value high)
 
 -- The first argument out of range by a row of the table, 1 or 2; 0 where there is none.
-abbrev pub badBy : Row → ℕ → ℕ → ℕ
-badBy row first second =
+abbrev pub firstBad : Row → ℕ → ℕ → ℕ
+firstBad row first second =
     cond (inLimits (row .layout) (row .low1) (row .high1) first)
     (cond (inLimits (row .layout) (row .low2) (row .high2) second) 0 2)
     1
-
--- The same by the row of a form.
-abbrev pub badOf : Form → ℕ → ℕ → ℕ
-badOf form first second = badBy (rowOf form) first second
 
 abbrev pub isNever : FlagRule → Bool
 isNever FlagRule.Either = false
@@ -78,21 +73,23 @@ flagRefused rule flag = toldWith (firstOf (flagChecks rule flag)) 0
 
 -- Rows 8 to 10, on a flag and two numbers, by a row of the table.
 abbrev pub rowChecks : Row → Bool → ℕ → ℕ → List Check
-rowChecks row flag first second = 8 when not (eqb (badBy row first second) 0) ∷ flagChecks (row .flags) flag
+rowChecks row flag first second = 8 when not (eqb (firstBad row first second) 0) ∷ flagChecks (row .flags) flag
 
--- The parameter byte of a code: 0 unless the code is 8, which names the first bad parameter.
-abbrev pub parWith : ℕ → ℕ → ℕ
-parWith code bad = cond (eqb code 8) bad 0
+-- "the parameter byte says 1 or 2, the first bad one": 0 unless the code is 8.
+abbrev pub parOf : ℕ → ℕ → ℕ
+parOf code bad = cond (eqb code 8) bad 0
 
 -- The judgement on a flag and two numbers, by a row of the table.
 abbrev pub judgedBy : Row → Bool → ℕ → ℕ → Told
 judgedBy row flag first second =
     let code = firstOf (rowChecks row flag first second) in
-    toldWith code (parWith code (badBy row first second))
+    toldWith code (parOf code (firstBad row first second))
 
--- The first bad parameter of a decoded command.
-abbrev pub badIn : Command → ℕ
-badIn c = badOf (partsOf (c .kind) .form) (partsOf (c .kind) .first) (partsOf (c .kind) .second)
+-- The first bad argument of a decoded command, by the row of its form.
+abbrev pub firstBadIn : Command → ℕ
+firstBadIn c =
+    let parts = partsOf (c .kind) in
+    firstBad (rowOf (parts .form)) (parts .first) (parts .second)
 
 -- Rows 8 to 10, on a decoded command.
 abbrev pub argChecks : Command → List Check
@@ -103,10 +100,6 @@ argChecks c =
 unfoldable pub judgeCode : Command → ℕ
 judgeCode c = firstOf (argChecks c)
 
--- The parameter byte of a code, for this command.
-abbrev pub parFor : ℕ → Command → ℕ
-parFor code c = parWith code (badIn c)
-
 -- The judgement on a decoded command.
 abbrev pub judged : Command → Told
-judged c = toldWith (judgeCode c) (parFor (judgeCode c) c)
+judged c = toldWith (judgeCode c) (parOf (judgeCode c) (firstBadIn c))

@@ -17,7 +17,7 @@ use Rattle.wire.specs.declared.decoding.Reach.{Reach}
 use Rattle.wire.specs.Codes.{Check, _when_, firstOf}
 use Rattle.wire.specs.Table.{rowOf, ruleOf}
 use Rattle.wire.specs.Kind.{kindOf}
-use Rattle.wire.specs.Judge.{toldWith, toldOf, argChecks, parFor}
+use Rattle.wire.specs.Judge.{toldWith, toldOf, argChecks, firstBadIn, parOf}
 
 -- Word 1: opcode, 16 bits; macro flag, 1 bit; length in words, 15 bits.
 abbrev pub opcodeOf : List ℕ → ℕ
@@ -66,7 +66,7 @@ answerOf (Reading.Refused refusal) = record { told = toldOf refusal; taken = [] 
 
 -- The answer to a command with this code.
 abbrev pub answerFor : ℕ → Command → Answer
-answerFor code c = record { told = toldWith code (parFor code c); taken = cond (eqb code 0) (c ∷ []) [] }
+answerFor code c = record { told = toldWith code (parOf code (firstBadIn c)); taken = cond (eqb code 0) (c ∷ []) [] }
 
 -- Rows 1 to 3.
 abbrev pub reachChecks : List ℕ → List Check

@@ -12,7 +12,7 @@ use Rattle.wire.specs.declared.encoding.Writing.{Writing}
 use Rattle.wire.specs.Codes.{Check, _when_, firstOf}
 use Rattle.wire.specs.Table.{rowOf}
 use Rattle.wire.specs.Kind.{partsOf}
-use Rattle.wire.specs.Judge.{toldWith, toldOf, argChecks, parFor}
+use Rattle.wire.specs.Judge.{toldWith, toldOf, argChecks, firstBadIn, parOf}
 use Rattle.wire.specs.Read.{sumOf}
 
 -- The flag as a bit.
@@ -72,7 +72,7 @@ writeCode c room = firstOf (writeChecks c room)
 unfoldable pub wroteAt : Command → List ℕ → Wrote
 unfolding writeCode
 wroteAt c room =
-    record { told = toldWith (writeCode c room) (parFor (writeCode c room) c); bytes = cond (eqb (writeCode c room) 0) (length (commandBytes c)) 0 }
+    record { told = toldWith (writeCode c room) (parOf (writeCode c room) (firstBadIn c)); bytes = cond (eqb (writeCode c room) 0) (length (commandBytes c)) 0 }
 
 -- The room afterwards: the command at its front and the rest as it was; all of it as it was on a refusal.
 unfoldable pub roomAfter : Command → List ℕ → List ℕ

@@ -1,11 +1,9 @@
 // What the wire refuses, and the rules on a decoded command: codes 8, 9 and 10, in that order.
 ghost use mathlib.Core.Path.{_≡_};
-ghost use Rattle.wire.specs.Table.{rowOf};
-ghost use Rattle.wire.specs.Judge.{toldWith, toldOf, toldJudged, inLimits, badBy, badOf, flagRefused, judgedBy, judged};
+ghost use Rattle.wire.specs.Judge.{toldWith, toldOf, toldJudged, inLimits, firstBad, flagRefused, judgedBy, judged};
 use super::kinds::Command;
 use super::kinds::parts_of;
 use super::table::FlagRule;
-use super::table::Form;
 use super::table::Layout;
 use super::table::Row;
 use super::table::row_of;
@@ -79,8 +77,8 @@ fn in_limits(layout: Layout, low: u32, high: u32, value: u32) -> bool
 }
 
 // The first argument out of range, 1 or 2; 0 where both are within the limits of this row.
-fn bad_by(row: Row, first: u32, second: u32) -> u8
-    ensures { λ r. ⌜ r ≡ badBy row first second ⌝ }
+pub fn first_bad(row: Row, first: u32, second: u32) -> u8
+    ensures { λ r. ⌜ r ≡ firstBad row first second ⌝ }
 {
     let layout = row.layout;
     if !in_limits(layout, row.low1, row.high1, first) {
@@ -90,13 +88,6 @@ fn bad_by(row: Row, first: u32, second: u32) -> u8
         return 2;
     }
     0
-}
-
-// The same by the limits of a form.
-pub fn first_bad(form: Form, first: u32, second: u32) -> u8
-    ensures { λ r. ⌜ r ≡ badOf form first second ⌝ }
-{
-    bad_by(row_of(form), first, second)
 }
 
 // The flag against its rule: codes 9 and 10.
@@ -126,7 +117,7 @@ fn judge_flag(rule: FlagRule, flag: bool) -> Judged
 pub fn judge_by(row: Row, flag: bool, first: u32, second: u32) -> Judged
     ensures { λ r. ⌜ toldJudged r ≡ judgedBy row flag first second ⌝ }
 {
-    let bad = bad_by(row, first, second);
+    let bad = first_bad(row, first, second);
     if bad != 0 {
         return Judged::Refused(Refusal::OutOfRange(bad));
     }

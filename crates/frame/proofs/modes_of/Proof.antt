@@ -12,8 +12,8 @@ power-bit c = is-bit (c .before .args .f .power) (c .bit-of .ensures)
 auto-bit : (c : tie.After-bit-of2) → c .bit-of2 .result ≤ 1
 auto-bit c = is-bit (c .before .before .args .f .auto) (c .bit-of2 .ensures)
 
-tracking-bit : (c : tie.After-bit-of3) → c .bit-of3 .result ≤ 1
-tracking-bit c = is-bit (c .before .before .before .args .f .tracking) (c .bit-of3 .ensures)
+looping-bit : (c : tie.After-bit-of3) → c .bit-of3 .result ≤ 1
+looping-bit c = is-bit (c .before .before .before .args .f .looping) (c .bit-of3 .ensures)
 
 bit-of-requires : tie.Need-bit-of-requires
 bit-of-requires c κs = search needs
@@ -31,10 +31,10 @@ bit-of-requires-3 : tie.Need-bit-of-requires-3
 bit-of-requires-3 c κs = search needs
 
 mul-result-2 : tie.Need-mul-result-2
-mul-result-2 c = omega (arith, tracking-bit c)
+mul-result-2 c = omega (arith, looping-bit c)
 
 add-result-2 : tie.Need-add-result-2
-add-result-2 c = omega (arith, power-bit (c .before .before), auto-bit (c .before), tracking-bit c)
+add-result-2 c = omega (arith, power-bit (c .before .before), auto-bit (c .before), looping-bit c)
 
 cast-result : tie.Need-cast-result
 cast-result c = search needs
@@ -43,7 +43,7 @@ mul-result-3 : tie.Need-mul-result-3
 mul-result-3 c = search needs
 
 add-result-3 : tie.Need-add-result-3
-add-result-3 c = omega (arith, power-bit (c .before .before .before), auto-bit (c .before .before), tracking-bit (c .before))
+add-result-3 c = omega (arith, power-bit (c .before .before .before), auto-bit (c .before .before), looping-bit (c .before))
 
 returns : tie.Need-returns
 returns c = search needs

@@ -9,7 +9,7 @@ use Rattle.frame.proofs.modes_word.Tie as tie
 modes-small : (c : tie.After-modes-of) → c .modes-of .result ≤ 39
 modes-small c =
     let f = c .before .args .f in
-    omega (arith, c .modes-of .ensures, modes-le (f .power) (f .auto) (f .tracking) (f .algorithm) (c .before .pre))
+    omega (arith, c .modes-of .ensures, modes-le (f .power) (f .auto) (f .looping) (f .algorithm) (c .before .pre))
 
 modes-of-requires : tie.Need-modes-of-requires
 modes-of-requires c κs = search needs

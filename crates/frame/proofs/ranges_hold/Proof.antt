@@ -1,54 +1,52 @@
--- `frame::ranges_hold` meets its contract: no bad argument in a region, a goal and an algorithm, by what `wire::first_bad` promises.
-use mathlib.Core.Path.{sym, ap}
-use lib.Dec.{eqb}
+-- `frame::ranges_hold` meets its contract: a region, a goal and an algorithm in range, by what `in_range` promises.
+use mathlib.Core.Path.{sym}
 use borrow.Author.Needs.{needs}
-use Rattle.frame.proofs.Tests.{some, none, last}
+use Rattle.frame.proofs.Tests.{fails, holds, last}
 use Rattle.frame.proofs.ranges_hold.Statement.{statement}
 use Rattle.frame.proofs.ranges_hold.Tie as tie
 
-cast-first-bad : tie.Need-cast-first-bad
-cast-first-bad c = search needs
+cast-in-range : tie.Need-cast-in-range
+cast-in-range c = search needs
 
-cast-first-bad-2 : tie.Need-cast-first-bad-2
-cast-first-bad-2 c = search needs
+cast-in-range-2 : tie.Need-cast-in-range-2
+cast-in-range-2 c = search needs
 
-first-bad-requires : tie.Need-first-bad-requires
-first-bad-requires c κs = search needs
+in-range-requires : tie.Need-in-range-requires
+in-range-requires c κs = search needs
 
 returns : tie.Need-returns
-returns c = sym (simp (some (c .before .first-bad .ensures) (c .if1 .taken)))
+returns c = sym (simp (fails (c .before .in-range .ensures) (c .if1 .taken)))
 
-first-bad-requires-2 : tie.Need-first-bad-requires-2
-first-bad-requires-2 c κs = search needs
+in-range-requires-2 : tie.Need-in-range-requires-2
+in-range-requires-2 c κs = search needs
 
 returns-2 : tie.Need-returns-2
 returns-2 c =
     let region = c .before .before in
-    sym (simp (none (region .before .first-bad .ensures) (region .if1 .left), some (c .before .first-bad2 .ensures) (c .if2 .taken)))
+    sym (simp (holds (region .before .in-range .ensures) (region .if1 .left), fails (c .before .in-range2 .ensures) (c .if2 .taken)))
 
-cast-first-bad-3 : tie.Need-cast-first-bad-3
-cast-first-bad-3 c = search needs
+cast-in-range-3 : tie.Need-cast-in-range-3
+cast-in-range-3 c = search needs
 
-first-bad-requires-3 : tie.Need-first-bad-requires-3
-first-bad-requires-3 c κs = search needs
+in-range-requires-3 : tie.Need-in-range-requires-3
+in-range-requires-3 c κs = search needs
 
 returns-3 : tie.Need-returns-3
 returns-3 c =
     let goal = c .before .before in
     let region = goal .before .before in
-    last (none (region .before .first-bad .ensures) (region .if1 .left)) (none (goal .before .first-bad2 .ensures) (goal .if2 .left))
-    (ap (λ bad. eqb bad 0) (c .first-bad3 .ensures))
+    last (holds (region .before .in-range .ensures) (region .if1 .left)) (holds (goal .before .in-range2 .ensures) (goal .if2 .left)) (c .in-range3 .ensures)
 
 pub ranges-hold-spec : {M : Type 1} → statement M
 ranges-hold-spec =
     tie.close
     (tie.spec
-    cast-first-bad
-    cast-first-bad-2
-    first-bad-requires
+    cast-in-range
+    cast-in-range-2
+    in-range-requires
     returns
-    first-bad-requires-2
+    in-range-requires-2
     returns-2
-    cast-first-bad-3
-    first-bad-requires-3
+    cast-in-range-3
+    in-range-requires-3
     returns-3)

@@ -2,7 +2,7 @@
 use borrow.Author.Needs.{needs}
 use mathlib.Core.Path.{_≡_, _∙_}
 use mathlib.Core.Logic.{⊎-elim}
-use Rattle.store.specs.Tally.{entriesAfter}
+use Rattle.store.specs.TallySteps.{entriesAfter}
 use Rattle.bench.proofs.ByTally.{entries-set, entries-kept}
 use Rattle.bench.proofs.Bench.after.Statement.{statement}
 use Rattle.bench.proofs.Bench.after.Tie as tie

@@ -2,7 +2,7 @@
 use borrow.Author.Needs.{needs}
 use mathlib.Core.Path.{ap, _∙_}
 use borrow.Author.Tests.{not-true, not-false}
-use Rattle.bench.specs.Order.{carriedBy}
+use Rattle.bench.specs.Steps.{carriedBy}
 use Rattle.bench.proofs.Outcomes.{unsound}
 use Rattle.bench.proofs.ByTally.{carried-by}
 use Rattle.bench.proofs.Shapes.{survey-unsound, survey-good, survey-tallied}

@@ -8,7 +8,7 @@ use borrow.Author.Needs.{needs}
 use borrow.Author.Tests.{lt-ltb, le-ltb, not-true, not-false}
 use Rattle.walk.specs.Walk.{rests}
 use Rattle.walk.proofs.Rests.{records-fit}
-use Rattle.bench.specs.declared.running.Begun.{Begun}
+use Rattle.bench.specs.declared.lists.Begun.{Begun}
 use Rattle.bench.specs.Status.{benchSound}
 use Rattle.bench.specs.Run.{runCode}
 use Rattle.bench.proofs.Sound.{GoodBench}

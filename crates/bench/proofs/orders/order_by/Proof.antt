@@ -1,7 +1,7 @@
 -- `orders::order_by` meets its contract: what `judge` refuses is inert, else what the tally says.
 use borrow.Author.Needs.{needs}
 use mathlib.Core.Path.{ap, _∙_}
-use Rattle.bench.specs.Order.{orderOf}
+use Rattle.bench.specs.Steps.{orderOf}
 use Rattle.bench.proofs.Ordering.{judged-refused, judged-passed}
 use Rattle.bench.proofs.orders.order_by.Statement.{statement}
 use Rattle.bench.proofs.orders.order_by.Tie as tie

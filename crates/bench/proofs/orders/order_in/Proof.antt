@@ -1,7 +1,7 @@
 -- `orders::order_in` meets its contract: what the reader refuses is inert, else what the tally says.
 use borrow.Author.Needs.{needs}
 use mathlib.Core.Path.{ap, _∙_}
-use Rattle.bench.specs.Order.{orderOf}
+use Rattle.bench.specs.Steps.{orderOf}
 use Rattle.bench.proofs.Ordering.{read-refused, read-passed}
 use Rattle.bench.proofs.orders.order_in.Statement.{statement}
 use Rattle.bench.proofs.orders.order_in.Tie as tie

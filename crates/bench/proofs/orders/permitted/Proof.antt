@@ -1,7 +1,7 @@
 -- `orders::permitted` meets its contract: what the tally denies is inert, what it grants takes effect.
 use borrow.Author.Needs.{needs}
 use mathlib.Core.Path.{ap, _∙_}
-use Rattle.bench.specs.Order.{orderOf}
+use Rattle.bench.specs.Steps.{orderOf}
 use Rattle.bench.proofs.Ordering.{denied, granted}
 use Rattle.bench.proofs.orders.permitted.Statement.{statement}
 use Rattle.bench.proofs.orders.permitted.Tie as tie

@@ -61,31 +61,31 @@ enum-told-8 : tie.Need-enum-told-8
 enum-told-8 c = search needs
 
 returns : tie.Need-returns
-returns c = rw (c .before .before .before .kind .given .1)
+returns c = rw (c .before .kind .given .1)
 
 returns-2 : tie.Need-returns-2
-returns-2 c = rw (c .before .before .before .kind2 .given .1)
+returns-2 c = rw (c .before .kind2 .given .1)
 
 returns-3 : tie.Need-returns-3
-returns-3 c = rw (c .before .before .before .kind3 .given .1, c .before .started .ensures)
+returns-3 c = rw (c .before .before .kind3 .given .1, c .started .ensures)
 
 returns-4 : tie.Need-returns-4
-returns-4 c = rw (c .before .before .before .kind4 .given .1)
+returns-4 c = rw (c .before .kind4 .given .1)
 
 returns-5 : tie.Need-returns-5
-returns-5 c = rw (c .before .before .before .kind5 .given .1)
+returns-5 c = rw (c .before .kind5 .given .1)
 
 returns-6 : tie.Need-returns-6
-returns-6 c = rw (c .before .before .before .kind6 .given .1, c .before .started2 .ensures)
+returns-6 c = rw (c .before .before .kind6 .given .1, c .started2 .ensures)
 
 returns-7 : tie.Need-returns-7
-returns-7 c = rw (c .before .before .parts-of .ensures, c .before .before .before .enum-told .given .1)
+returns-7 c = rw (c .parts-of .ensures, c .before .enum-told .given .1)
 
 returns-8 : tie.Need-returns-8
-returns-8 c = rw (c .before .before .wrapping-add-u8 .ensures, c .before .before .before .enum-told2 .given .1)
+returns-8 c = rw (c .wrapping-add-u8 .ensures, c .before .enum-told2 .given .1)
 
 returns-9 : tie.Need-returns-9
-returns-9 c = rw (c .before .before .before .kind7 .given .1)
+returns-9 c = rw (c .before .kind7 .given .1)
 
 returns-10 : tie.Need-returns-10
 returns-10 c = rw (c .enum-told3 .given .1)

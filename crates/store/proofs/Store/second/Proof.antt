@@ -1,7 +1,7 @@
 -- `store::Store::second` meets its contract: a store that is not sound stays, and so does an idle one; otherwise one second less is left.
 use borrow.Author.Tests.{eq-eqb, ne-eqb, not-true, not-false}
 use borrow.Author.Needs.{needs}
-use Rattle.store.specs.Second.{steppedOf}
+use Rattle.store.specs.SecondSteps.{steppedOf}
 use Rattle.store.proofs.Store.second.Statement.{statement}
 use Rattle.store.proofs.Store.second.Tie as tie
 

@@ -8,7 +8,7 @@ use lib.ListN.{getD, drop}
 use borrow.Author.Needs.{needs}
 use Rattle.store.specs.declared.Store.{Store}
 use Rattle.store.specs.Slots.{emptySlot, entriesOf}
-use Rattle.store.specs.Lookup.{coverIn}
+use Rattle.store.specs.LookupSteps.{coverIn}
 use Rattle.store.proofs.Walk.{Walk, length-mapped, walk-next, walk-end}
 use Rattle.store.proofs.Covers.{cover-here, cover-on, cover-none}
 use Rattle.store.proofs.lookup.cover_in.Statement.{statement}

@@ -8,7 +8,7 @@ use lib.ListN.{getD, drop}
 use borrow.Author.Needs.{needs}
 use Rattle.store.specs.declared.Store.{Store}
 use Rattle.store.specs.Slots.{emptySlot, entriesOf}
-use Rattle.store.specs.Lookup.{spansIn}
+use Rattle.store.specs.LookupSteps.{spansIn}
 use Rattle.store.proofs.Lengths.{sum-turn, sum-end}
 use Rattle.store.proofs.Walk.{Walk, length-mapped, walk-next, walk-end}
 use Rattle.store.proofs.lookup.length_by.Statement.{statement}

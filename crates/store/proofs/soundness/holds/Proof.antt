@@ -9,7 +9,7 @@ use lib.ListN.{length}
 use borrow.Author.Needs.{needs}
 use borrow.Author.Tests.{not-true, not-false}
 use Rattle.store.specs.declared.Store.{Store}
-use Rattle.store.specs.Lookup.{TellsBelow}
+use Rattle.store.specs.LookupSteps.{TellsBelow}
 use Rattle.store.specs.Sound.{allBelow, macroHolds, storeSound}
 use Rattle.store.proofs.Lengths.{all-told}
 use Rattle.store.proofs.SoundLaws.{below-start, below-on, below-fail, running-told}

@@ -12,17 +12,17 @@ no-parameter : (b : Bool) → _≡_ {A = ℕ} (cond b 0 0) 0
 no-parameter true = refl
 no-parameter false = refl
 
-bad-by-requires : tie.Need-bad-by-requires
-bad-by-requires c κs = search needs
+first-bad-requires : tie.Need-first-bad-requires
+first-bad-requires c κs = search needs
 
 returns : tie.Need-returns
-returns c = rw (← c .before .bad-by .ensures, ne-eqb (c .before .bad-by .result) 0 (c .if1 .taken))
+returns c = rw (← c .before .first-bad .ensures, ne-eqb (c .before .first-bad .result) 0 (c .if1 .taken))
 
 judge-flag-requires : tie.Need-judge-flag-requires
 judge-flag-requires c κs = search needs
 
 returns-2 : tie.Need-returns-2
-returns-2 c = rw (← c .before .before .bad-by .ensures, c .before .if1 .left, no-parameter) (c .judge-flag .ensures)
+returns-2 c = rw (← c .before .before .first-bad .ensures, c .before .if1 .left, no-parameter) (c .judge-flag .ensures)
 
 pub judge-by-spec : {M : Type 1} → statement M
-judge-by-spec = tie.close (tie.spec bad-by-requires returns judge-flag-requires returns-2)
+judge-by-spec = tie.close (tie.spec first-bad-requires returns judge-flag-requires returns-2)

@@ -1,6 +1,6 @@
 -- `store::tally::Tally::after` meets its contract: the flag decides between the two effects.
 use borrow.Author.Needs.{needs}
-use Rattle.store.specs.Tally.{tallyAfter}
+use Rattle.store.specs.TallySteps.{tallyAfter}
 use Rattle.store.proofs.tally.Tally.after.Statement.{statement}
 use Rattle.store.proofs.tally.Tally.after.Tie as tie
 

@@ -6,7 +6,7 @@ use lib.ListN.{drop}
 use borrow.Author.Needs.{needs}
 use Rattle.wire.specs.Codes.{firstOf}
 use Rattle.store.specs.Checks.{rowsFor}
-use Rattle.store.specs.Tally.{openLength, tallyCode}
+use Rattle.store.specs.TallySteps.{openLength, tallyCode}
 use Rattle.store.proofs.tally.Tally.permits.Statement.{statement}
 use Rattle.store.proofs.tally.Tally.permits.Tie as tie
 

@@ -8,11 +8,11 @@ use lib.ListN.{length}
 use borrow.Author.Needs.{needs}
 use Rattle.walk.proofs.Rests.{rests-512}
 use Rattle.walk.proofs.Turns.{CommandAt, command-at}
-use Rattle.store.specs.Tally.{entriesAfter}
+use Rattle.store.specs.TallySteps.{entriesAfter}
 use Rattle.bench.proofs.Shapes.{shaped}
 use Rattle.bench.proofs.Listing.{benchOf, Behind, start, from-parts, more-rests, turn, list-ended}
-use Rattle.bench.proofs.running.run_list.Statement.{statement}
-use Rattle.bench.proofs.running.run_list.Tie as tie
+use Rattle.bench.proofs.lists.run_list.Statement.{statement}
+use Rattle.bench.proofs.lists.run_list.Tie as tie
 
 abbrev Inv-loop : tie.InvT-loop
 Inv-loop list sender room₀ camera₀ entries₀ tally₀ at₀ count₀ room camera entries tally at count =

@@ -5,7 +5,7 @@ ghost use mathlib.Core.Bool.{true};
 ghost use lib.ListN.{length};
 ghost use Rattle.words.specs.BigEndian.{written};
 ghost use Rattle.walk.specs.Walk.{rests};
-ghost use Rattle.store.specs.Tally.{Tallied};
+ghost use Rattle.store.specs.TallySteps.{Tallied};
 ghost use Rattle.bench.specs.Status.{benchSound};
 ghost use Rattle.bench.specs.Run.{begunCode, runList, refusedWith, ranOf, runOf, roomAfter};
 use super::Bench;

@@ -7,11 +7,11 @@ use Rattle.wire.specs.declared.kinds.Kind.{Kind}
 use Rattle.wire.specs.declared.kinds.Command.{Command}
 use Rattle.wire.specs.declared.judging.Told.{Told}
 use Rattle.wire.specs.Codes.{firstOf}
-use Rattle.wire.specs.Judge.{toldWith, argChecks, parFor}
+use Rattle.wire.specs.Judge.{toldWith, argChecks, firstBadIn, parOf}
 use Rattle.wire.specs.Read.{readChecks}
 use Rattle.store.specs.declared.tally.Tally.{Tally}
 use Rattle.store.specs.declared.tally.Survey.{Survey}
-use Rattle.store.specs.Tally.{tallyOf, storeOf, tallyChecks, tallyCode, tallyAfter, entriesAfter}
+use Rattle.store.specs.TallySteps.{tallyOf, storeOf, tallyChecks, tallyCode, tallyAfter, entriesAfter}
 use Rattle.bench.specs.declared.Bench.{Bench}
 use Rattle.bench.specs.declared.orders.Order.{Order}
 use Rattle.bench.specs.Status.{benchSound}
@@ -30,7 +30,7 @@ orderOf r = record { told = verdictOf (r .verdict); effect = r .effect }
 
 -- "A refused command changes no part of the state."
 abbrev pub orderFor : ℕ → Command → Ordered
-orderFor code c = record { told = toldWith code (parFor code c); effect = cond (eqb code 0) c inert }
+orderFor code c = record { told = toldWith code (parOf code (firstBadIn c)); effect = cond (eqb code 0) c inert }
 
 -- Rows 11 to 19 alone, on a command that was read or judged.
 unfoldable pub orderPermitted : Tally → Command → Ordered
