@@ -2,7 +2,7 @@
 // Macro commands are not the camera's: executing one leaves it as it is.
 ghost use mathlib.Core.Path.{_≡_};
 ghost use Rattle.camera.specs.Series.{freshSeries, startedOf, timeAfter, secondOf, nextHolds};
-ghost use Rattle.camera.specs.Camera.{freshCamera, executedOf, cameraSecond};
+ghost use Rattle.camera.specs.Camera.{freshCamera, withSeries, withRegion, withGoal, withModes, withFlushes, executedOf, cameraSecond};
 use wire::Kind;
 
 // A series of images: the seconds that it still runs, the interval, the seconds to the next image, the images so far.
@@ -127,55 +127,76 @@ impl Camera {
         }
     }
 
+    fn with_image(mut self, image: Series) -> Camera
+        ensures { λ r. ⌜ r ≡ withSeries self image (self .track) ⌝ }
+    {
+        self.image = image;
+        self
+    }
+
+    fn with_track(mut self, track: Series) -> Camera
+        ensures { λ r. ⌜ r ≡ withSeries self (self .image) track ⌝ }
+    {
+        self.track = track;
+        self
+    }
+
+    fn with_region(mut self, x: u16, y: u16) -> Camera
+        ensures { λ r. ⌜ r ≡ withRegion self x y ⌝ }
+    {
+        self.x = x;
+        self.y = y;
+        self
+    }
+
+    fn with_goal(mut self, xgoal: u32, ygoal: u32) -> Camera
+        ensures { λ r. ⌜ r ≡ withGoal self xgoal ygoal ⌝ }
+    {
+        self.xgoal = xgoal;
+        self.ygoal = ygoal;
+        self
+    }
+
+    fn with_modes(mut self, power: bool, auto: bool, looping: bool, algorithm: u8) -> Camera
+        ensures { λ r. ⌜ r ≡ withModes self power auto looping algorithm ⌝ }
+    {
+        self.power = power;
+        self.auto = auto;
+        self.looping = looping;
+        self.algorithm = algorithm;
+        self
+    }
+
+    fn with_flushes(mut self, flushes: u8) -> Camera
+        ensures { λ r. ⌜ r ≡ withFlushes self flushes ⌝ }
+    {
+        self.flushes = flushes;
+        self
+    }
+
     // An executed command takes effect at once.
     pub fn executed(self, kind: Kind) -> Camera
         ensures { λ r. ⌜ r ≡ executedOf self kind ⌝ }
     {
         let image = self.image;
         let track = self.track;
-        let mut next = self;
+        let power = self.power;
+        let auto = self.auto;
+        let looping = self.looping;
+        let algorithm = self.algorithm;
         match kind {
-            Kind::ImgPwr(mode) => {
-                next.power = mode == 1;
-                next
-            }
-            Kind::ImgRegion(x, y) => {
-                next.x = x;
-                next.y = y;
-                next
-            }
-            Kind::ImgTrack(time, interval) => {
-                let track = track.started(time, interval);
-                next.track = track;
-                next
-            }
-            Kind::TrkAlg(mode) => {
-                next.algorithm = mode;
-                next
-            }
-            Kind::TrkLoop(mode) => {
-                next.looping = mode == 1;
-                next
-            }
-            Kind::ImgImage(time, interval) => {
-                let image = image.started(time, interval);
-                next.image = image;
-                next
-            }
+            Kind::ImgPwr(mode) => self.with_modes(mode == 1, auto, looping, algorithm),
+            Kind::ImgRegion(x, y) => self.with_region(x, y),
+            Kind::ImgTrack(time, interval) => self.with_track(track.started(time, interval)),
+            Kind::TrkAlg(mode) => self.with_modes(power, auto, looping, mode),
+            Kind::TrkLoop(mode) => self.with_modes(power, auto, mode == 1, algorithm),
+            Kind::ImgImage(time, interval) => self.with_image(image.started(time, interval)),
             Kind::TrkGoal(_, _) => {
                 let goal = wire::parts_of(kind);
-                next.xgoal = goal.first;
-                next.ygoal = goal.second;
-                next
+                self.with_goal(goal.first, goal.second)
             }
-            Kind::TlmFlush => {
-                next.flushes = std::num::wrapping_add_u8(self.flushes, 1);
-                next
-            }
-            Kind::FlushAuto(mode) => {
-                next.auto = mode == 1;
-                next
-            }
+            Kind::TlmFlush => self.with_flushes(std::num::wrapping_add_u8(self.flushes, 1)),
+            Kind::FlushAuto(mode) => self.with_modes(power, mode == 1, looping, algorithm),
             Kind::Open(_) => self,
             Kind::Close => self,
             Kind::Run(_) => self,
@@ -191,12 +212,7 @@ impl Camera {
     {
         let image = self.image;
         let track = self.track;
-        let image = image.second();
-        let track = track.second();
-        Camera {
-            image,
-            track,
-            ..self
-        }
+        let next = self.with_image(image.second());
+        next.with_track(track.second())
     }
 }
