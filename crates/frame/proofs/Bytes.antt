@@ -6,7 +6,8 @@ use native.Mathlib.Omega.{arith}
 use lib.Count.{ones, ones-le}
 use Rattle.words.specs.BigEndian.{halfBytes, wordBytes, bytesOf}
 use Rattle.frame.specs.declared.Frame.{Frame}
-use Rattle.frame.specs.Bytes.{modesOf, modesWord, macrosWord, frameBytes}
+use Rattle.frame.specs.Bytes.{modesOf, frameBytes}
+use Rattle.frame.specs.Steps.{modesWord, macrosWord}
 use Rattle.frame.proofs.Laws.{Held}
 
 -- A word of two numbers of 16 bits.

@@ -15,7 +15,8 @@ use Rattle.wire.proofs.Order.{due-none}
 use Rattle.wire.proofs.Front.{Bytes, frontWords, front-made}
 use Rattle.frame.specs.declared.Frame.{Frame}
 use Rattle.frame.specs.Rules.{frameRule}
-use Rattle.frame.specs.Bytes.{bit, modesOf, modesWord, macrosWord, frameBytes, frameAt, spareBitsZero, countHolds}
+use Rattle.frame.specs.Bytes.{bit, modesOf, frameBytes, frameAt, spareBitsZero, countHolds}
+use Rattle.frame.specs.Steps.{modesWord, macrosWord}
 use Rattle.frame.specs.Answers.{readChecks, readCode, readOf}
 use Rattle.frame.proofs.Laws.{Held, ruled}
 use Rattle.frame.proofs.Modes.{bit-le, modes-le}

@@ -66,10 +66,3 @@ spareBitsZero s = eqb (byteAt s 24 / 8 % 2) 0 && eqb (byteAt s 24 / 64) 0
 -- "byte 31 true": how many bits of byte 30 are ones.
 abbrev pub countHolds : List ℕ → Bool
 countHolds s = eqb (byteAt s 31) (ones (byteAt s 30))
-
--- Bytes 24 to 27, and bytes 28 to 31, each as one number.
-abbrev pub modesWord : Frame → ℕ
-modesWord f = modesOf (f .power) (f .auto) (f .looping) (f .algorithm) * 16777216 + f .flushes * 65536 + f .running * 256 + f .opened
-
-abbrev pub macrosWord : Frame → ℕ
-macrosWord f = f .left * 65536 + f .closed * 256 + ones (f .closed)

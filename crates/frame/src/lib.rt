@@ -5,7 +5,8 @@ ghost use lib.Dec.{eqb};
 ghost use Rattle.wire.specs.Table.{rowOf};
 ghost use Rattle.wire.specs.Judge.{firstBad};
 ghost use Rattle.frame.specs.Rules.{intervalsHold, rangesHold, macroOrNone, numbersHold, leftHolds, marked, marksHold, frameRule};
-ghost use Rattle.frame.specs.Bytes.{bit, modesOf, modesWord, macrosWord, paceAt, frameAt, spareBitsZero, countHolds};
+ghost use Rattle.frame.specs.Bytes.{bit, modesOf, paceAt, frameAt, spareBitsZero, countHolds};
+ghost use Rattle.frame.specs.Steps.{modesWord, macrosWord};
 ghost use Rattle.frame.specs.Answers.{codeOf, answerOf, readOf, wroteOf, writeCode, roomAfter};
 use wire::Form;
 

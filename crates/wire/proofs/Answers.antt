@@ -26,8 +26,9 @@ use Rattle.wire.specs.Codes.{Check, _when_, firstOf}
 use Rattle.wire.specs.Table.{rowOf, ruleOf}
 use Rattle.wire.specs.Kind.{kindOf}
 use Rattle.wire.specs.Judge.{toldWith, toldOf, toldJudged, judgedBy, judgeCode, judged, firstBadIn, parOf}
-use Rattle.wire.specs.Read.{Answer, answerOf, answerFor, fieldsOf, commandAs, decodeChecks, decodedAs, decoded, formIn, opcodeOf, lengthOf, sumOf}
-use Rattle.wire.specs.Read.{thirdWord, readWhole, commandIn, Reached, reachOf, reachCode, reachAt, reachChecks, wholeChecks, readCode, readOf, spanOf}
+use Rattle.wire.specs.Read.{Answer, answerOf, answerFor, fieldsOf, commandAs, decodeChecks, formIn, opcodeOf, lengthOf, sumOf}
+use Rattle.wire.specs.Read.{thirdWord, commandIn, reachCode, reachChecks, wholeChecks, readCode, readOf, spanOf}
+use Rattle.wire.specs.Steps.{decodedAs, decoded, readWhole, Reached, reachOf, reachAt}
 
 -- The answer of a refusal.
 abbrev pub refusedBy : Told → Answer

@@ -13,8 +13,9 @@ use Rattle.words.proofs.Laws.{half-on, word-on}
 use Rattle.wire.specs.declared.kinds.Command.{Command}
 use Rattle.wire.specs.Codes.{Check, _when_, firstOf}
 use Rattle.wire.specs.Judge.{toldWith}
-use Rattle.wire.specs.Read.{answerFor, lengthOf, sumOf, thirdWord, wholeChecks, commandIn, readWhole}
+use Rattle.wire.specs.Read.{answerFor, lengthOf, sumOf, thirdWord, wholeChecks, commandIn}
 use Rattle.wire.specs.Read.{reachChecks, reachCode, readChecks, readCode, readOf, spanOf}
+use Rattle.wire.specs.Steps.{readWhole}
 use Rattle.wire.proofs.Order.{FirstAt, none-due, read-order}
 use Rattle.wire.proofs.Answers.{refusedBy, Reaches, reaches, goes}
 

@@ -24,8 +24,9 @@ use Rattle.wire.specs.Table.{rowOf, ruleOf}
 use Rattle.wire.specs.Kind.{partsWith, partsOf, kindOf}
 use Rattle.wire.specs.Judge.{toldWith, inLimits, firstBad, firstBadIn, argChecks, judgeCode}
 use Rattle.wire.specs.Read.{answerFor, fieldsWith, fieldsOf, opcodeOf, flagOf, lengthOf, sumOf, thirdWord, commandAs, commandIn, formIn}
-use Rattle.wire.specs.Read.{decodeChecks, readWhole, reachCode, readChecks, readCode, readOf, spanOf}
+use Rattle.wire.specs.Read.{decodeChecks, reachCode, readChecks, readCode, readOf, spanOf}
 use Rattle.wire.specs.Write.{headOf, packedOf, closed, wordsOf, commandBytes}
+use Rattle.wire.specs.Steps.{readWhole}
 use Rattle.wire.proofs.Order.{NoneDue, none-due, read-order, judge-order}
 use Rattle.wire.proofs.Answers.{Reaches, reaches, sum-passed, length-passed, pad-passed}
 use Rattle.wire.proofs.Local.{read-whole, span-whole, reached}

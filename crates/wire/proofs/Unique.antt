@@ -11,8 +11,9 @@ use Rattle.wire.specs.declared.decoding.Reading.{Reading}
 use Rattle.wire.specs.declared.decoding.Reach.{Reach}
 use Rattle.wire.specs.declared.encoding.Writing.{Writing}
 use Rattle.wire.specs.Judge.{toldOf, toldJudged}
-use Rattle.wire.specs.Read.{Answer, answerOf, Reached, reachOf}
+use Rattle.wire.specs.Read.{Answer, answerOf}
 use Rattle.wire.specs.Write.{Wrote, wroteOf}
+use Rattle.wire.specs.Steps.{Reached, reachOf}
 use Rattle.wire.proofs.Answers.{refusal-code}
 
 -- The refusal with a code and a parameter; for a code that no refusal has, any will do.

@@ -10,7 +10,8 @@ use Rattle.words.specs.BigEndian.{hasRoom, written}
 use Rattle.wire.specs.declared.kinds.Command.{Command}
 use Rattle.wire.specs.Codes.{_when_}
 use Rattle.wire.specs.Judge.{toldWith, argChecks, judgeCode, firstBadIn, parOf, judged}
-use Rattle.wire.specs.Write.{commandBytes, wroteAllowed, writeCode, wroteAt, roomAfter}
+use Rattle.wire.specs.Write.{commandBytes, writeCode, wroteAt, roomAfter}
+use Rattle.wire.specs.Steps.{wroteAllowed}
 use Rattle.wire.proofs.FirstOf.{first-append}
 
 module _ (c : Command) (room : List ℕ) where

@@ -13,7 +13,6 @@ use Rattle.wire.specs.declared.kinds.Command.{Command}
 use Rattle.wire.specs.declared.judging.Told.{Told}
 use Rattle.wire.specs.declared.decoding.Reading.{Reading}
 use Rattle.wire.specs.declared.decoding.Fields.{Fields}
-use Rattle.wire.specs.declared.decoding.Reach.{Reach}
 use Rattle.wire.specs.Codes.{Check, _when_, firstOf}
 use Rattle.wire.specs.Table.{rowOf, ruleOf}
 use Rattle.wire.specs.Kind.{kindOf}
@@ -76,13 +75,13 @@ reachChecks s =
     ∷ 3 when ltb (length s) (lengthOf s * 4)
     ∷ []
 
+abbrev pub reachCode : List ℕ → ℕ
+reachCode s = firstOf (reachChecks s)
+
 -- Rows 7 to 10, where the form is known.
 abbrev pub formChecks : Form → Bool → ℕ → ℕ → List Check
 formChecks form flag one two =
     7 when not (eqb (fieldsOf (rowOf form .layout) one two .pad) 0) ∷ argChecks (commandAs form flag one two)
-
-unfoldable pub decodedAs : Form → Bool → ℕ → ℕ → Answer
-decodedAs form flag one two = answerFor (firstOf (formChecks form flag one two)) (commandAs form flag one two)
 
 -- Rows 5 to 10: the opcode is not in the table, or it is and the rows of its form follow.
 abbrev pub decodeChecks : Found → Bool → ℕ → ℕ → ℕ → List Check
@@ -94,10 +93,6 @@ decodeChecks (Found.Known form length) flag words one two =
 abbrev pub formIn : Found → Form
 formIn (Found.Known form length) = form
 formIn Found.Unknown = Form.TlmFlush
-
-unfoldable pub decoded : ℕ → Bool → ℕ → ℕ → ℕ → Answer
-decoded opcode flag words one two =
-    answerFor (firstOf (decodeChecks (ruleOf opcode) flag words one two)) (commandAs (formIn (ruleOf opcode)) flag one two)
 
 -- Row 4: the last word is not the XOR of all words before it.
 abbrev pub sumDiffers : List ℕ → ℕ → Bool
@@ -111,24 +106,6 @@ wholeChecks s words =
 -- The command that the bytes say.
 abbrev pub commandIn : List ℕ → ℕ → Command
 commandIn s words = commandAs (formIn (ruleOf (opcodeOf s))) (flagOf s) (wordAt s 4) (thirdWord s words)
-
-unfoldable pub readWhole : List ℕ → ℕ → Answer
-readWhole s words = answerFor (firstOf (wholeChecks s words)) (commandIn s words)
-
--- Rows 1 to 3: the code, and how many words the command has where it is 0.
-pub record Reached : Type 0 where
-  pub told : Told
-  pub words : ℕ
-
-abbrev pub reachOf : Reach → Reached
-reachOf (Reach.Words words) = record { told = toldWith 0 0; words = words }
-reachOf (Reach.Ends refusal) = record { told = toldOf refusal; words = 0 }
-
-abbrev pub reachCode : List ℕ → ℕ
-reachCode s = firstOf (reachChecks s)
-
-unfoldable pub reachAt : List ℕ → Reached
-reachAt s = record { told = toldWith (reachCode s) 0; words = cond (eqb (reachCode s) 0) (lengthOf s) 0 }
 
 -- Rows 1 to 10 on the bytes left, in their order.
 abbrev pub readChecks : List ℕ → List Check

@@ -57,11 +57,6 @@ abbrev pub wroteOf : Writing → Wrote
 wroteOf (Writing.Written bytes) = record { told = toldWith 0 0; bytes = bytes }
 wroteOf (Writing.Refused refusal) = record { told = toldOf refusal; bytes = 0 }
 
--- The answer where codes 8 to 10 passed.
-abbrev pub wroteAllowed : Command → List ℕ → Wrote
-wroteAllowed c room =
-    cond (hasRoom (commandBytes c) room) (record { told = toldWith 0 0; bytes = length (commandBytes c) }) (record { told = toldWith 24 0; bytes = 0 })
-
 -- Command writing: 8, then 9 or 10, then 24.
 abbrev pub writeChecks : Command → List ℕ → List Check
 writeChecks c room = argChecks c ++ (24 when not (hasRoom (commandBytes c) room) ∷ [])

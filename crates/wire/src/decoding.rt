@@ -2,7 +2,8 @@
 ghost use mathlib.Core.Path.{_≡_};
 ghost use Prim.Native.Nat.{_≤_};
 ghost use lib.ListN.{length};
-ghost use Rattle.wire.specs.Read.{fieldsWith, fieldsOf, sumOf, thirdWord, answerOf, decodedAs, decoded, readWhole, readOf, reachOf, reachAt, spanOf};
+ghost use Rattle.wire.specs.Read.{fieldsWith, fieldsOf, sumOf, thirdWord, answerOf, readOf, spanOf};
+ghost use Rattle.wire.specs.Steps.{decodedAs, decoded, readWhole, reachOf, reachAt};
 use super::judging::Judged;
 use super::judging::Refusal;
 use super::judging::judge_by;

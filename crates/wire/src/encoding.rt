@@ -4,6 +4,7 @@ ghost use mathlib.Core.Path.{_≡_};
 ghost use mathlib.Core.List.{[], _∷_};
 ghost use Rattle.words.specs.BigEndian.{hasRoom, written};
 ghost use Rattle.wire.specs.Write.{packedOf, headOf, closed, commandBytes, wroteOf, wroteAt, roomAfter};
+ghost use Rattle.wire.specs.Steps.{wroteAllowed};
 use super::judging::Judged;
 use super::judging::Refusal;
 use super::judging::judge;
@@ -70,7 +71,7 @@ fn put_laid_out(room: &mut [u8], layout: Layout, head: u32, first: u32, second: 
 
 // A command that passed codes 8 to 10.
 fn write_allowed(command: Command, room: &mut [u8]) -> Writing
-    ensures { λ r. ⌜ wroteOf r ≡ Rattle.wire.specs.Write.wroteAllowed command (now (room .entry)) ⌝ }
+    ensures { λ r. ⌜ wroteOf r ≡ wroteAllowed command (now (room .entry)) ⌝ }
     ensures { λ r. ⌜ now (room .exit) ≡ written (commandBytes command) (now (room .entry)) ⌝ }
 {
     let kind = command.kind;

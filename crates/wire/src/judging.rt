@@ -1,6 +1,7 @@
 // What the wire refuses, and the rules on a decoded command: codes 8, 9 and 10, in that order.
 ghost use mathlib.Core.Path.{_≡_};
-ghost use Rattle.wire.specs.Judge.{toldWith, toldOf, toldJudged, inLimits, firstBad, flagRefused, judgedBy, judged};
+ghost use Rattle.wire.specs.Judge.{toldWith, toldOf, toldJudged, inLimits, firstBad, judgedBy, judged};
+ghost use Rattle.wire.specs.Steps.{flagRefused};
 use super::kinds::Command;
 use super::kinds::parts_of;
 use super::table::FlagRule;

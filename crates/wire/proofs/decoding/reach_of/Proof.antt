@@ -1,7 +1,7 @@
 -- `reach_of` meets its contract: at each return the tests passed on the way are the rows 1 to 3 of `reachAt`.
 use borrow.Author.Tests.{lt-ltb, le-ltb}
 use borrow.Author.Needs.{needs}
-use Rattle.wire.specs.Read.{reachAt}
+use Rattle.wire.specs.Steps.{reachAt}
 use Rattle.wire.proofs.decoding.reach_of.Statement.{statement}
 use Rattle.wire.proofs.decoding.reach_of.Tie as tie
 

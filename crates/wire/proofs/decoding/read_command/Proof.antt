@@ -1,7 +1,7 @@
 -- `read_command` meets its contract: rows 1 to 3 by `Answers`, from the reach; the rest is `read_whole`'s.
 use mathlib.Core.Path.{sym, ap, _∙_}
 use borrow.Author.Needs.{needs}
-use Rattle.wire.specs.Read.{reachOf}
+use Rattle.wire.specs.Steps.{reachOf}
 use Rattle.wire.proofs.Answers.{read-ends, read-goes, goes-within}
 use Rattle.wire.proofs.decoding.read_command.Statement.{statement}
 use Rattle.wire.proofs.decoding.read_command.Tie as tie

@@ -1,7 +1,7 @@
 -- `span` meets its contract, by `Answers`, from the reach.
 use mathlib.Core.Path.{sym, ap, _∙_}
 use borrow.Author.Needs.{needs}
-use Rattle.wire.specs.Read.{reachOf}
+use Rattle.wire.specs.Steps.{reachOf}
 use Rattle.wire.proofs.Answers.{span-ends, span-goes}
 use Rattle.wire.proofs.decoding.span.Statement.{statement}
 use Rattle.wire.proofs.decoding.span.Tie as tie
