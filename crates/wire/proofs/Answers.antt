@@ -21,7 +21,7 @@ use Rattle.wire.specs.declared.decoding.Reading.{Reading}
 use Rattle.wire.specs.declared.decoding.Fields.{Fields}
 use Rattle.wire.specs.declared.decoding.Reach.{Reach}
 use Rattle.wire.proofs.Order.{due-none}
-use Rattle.wire.proofs.Layouts.{judged-fields}
+use Rattle.wire.proofs.Goals.{judged-fields}
 use Rattle.wire.specs.Codes.{Check, _when_, firstOf}
 use Rattle.wire.specs.Table.{rowOf, ruleOf}
 use Rattle.wire.specs.Kind.{kindOf}

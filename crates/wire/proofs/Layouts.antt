@@ -1,25 +1,20 @@
--- Laws of the table, of kinds and of layouts: an opcode finds its form, arguments come back from their words, and a kind from its parts;
--- and the numbers in the fields are judged like the command that is made of them.
-use Prim.Native.Nat.{ℕ, _+_, _%_, _^_, _<_}
+-- Laws of the table, of kinds and of layouts: an opcode finds its form, arguments come back from their words, and a kind from its parts.
+use Prim.Native.Nat.{ℕ, _+_, _^_, _<_}
 use mathlib.Core.Path.{_≡_, refl, sym, ap, _∙_}
 use mathlib.Core.List.{List, [], _∷_}
-use mathlib.Core.Bool.{Bool, true, false, cond, not}
+use mathlib.Core.Bool.{Bool, true, false, cond}
 use native.Mathlib.Omega.{arith}
 use lib.ListN.{length, getD, take}
-use lib.Dec.{T, eqb, ltb}
-use lib.Ieee.{Float, nan, inf, fin, binary32, ofBits, toBits, isNan}
-use lib.Ieee.Bits.{toBits-ofBits, nanBits-is}
-use borrow.Author.Tests.{eqb-true, ne-eqb, le-leb, lt-leb, ltb-true, ltb-false}
+use lib.Dec.{eqb}
+use lib.Ieee.{binary32, ofBits, toBits}
+use borrow.Author.Tests.{eqb-true}
 use Rattle.wire.specs.declared.table.Form.{Form}
 use Rattle.wire.specs.declared.table.Layout.{Layout}
 use Rattle.wire.specs.declared.table.Found.{Found}
-use Rattle.wire.specs.declared.kinds.Parts.{Parts}
 use Rattle.wire.specs.Table.{rowOf, guideForms, macroForms, lookUp, macroRuleOf, ruleOf}
 use Rattle.wire.specs.Kind.{partsWith, partsOf, kindOf}
-use Rattle.wire.specs.Judge.{inLimits, judgedBy, judgeCode, judged}
-use Rattle.wire.specs.Read.{fieldsWith, fieldsOf, commandAs}
+use Rattle.wire.specs.Read.{fieldsWith, fieldsOf}
 use Rattle.wire.specs.Write.{packedOf}
-use Rattle.wire.proofs.Singles.{low-is-number, high-is-nan}
 
 -- How many words the arguments of a layout take.
 abbrev pub argWords : Layout → ℕ
@@ -147,16 +142,6 @@ fields-within Layout.Half one two h bits = (omega arith, refl)
 fields-within Layout.Halves one two h bits = (omega arith, omega arith)
 fields-within Layout.Singles one two h bits = bits
 
--- A goal within its limits is no NaN, so its bits are those of the single read from them.
-pub goal-bits : (x : ℕ) → x < 2 ^ 32 → inLimits Layout.Singles 0 0x447fffff (toBits binary32 (ofBits binary32 x)) ≡ true → IsBits x
-unfolding isNan toBits
-goal-bits x h within = toBits-ofBits binary32 x h (go (ofBits binary32 x) within)
-  where
-    go : (v : Float) → inLimits Layout.Singles 0 0x447fffff (toBits binary32 v) ≡ true → T (not (isNan v))
-    go nan e = absurd (let z : _≡_ {A = ℕ} 0 1 = cc in omega arith)
-    go (inf s) e = tt
-    go (fin s m e) z = tt
-
 -- The parts of a kind that was put together are those that it was put together from.
 same-parts : (form : Form) {a b c d : ℕ} → a ≡ c → b ≡ d → partsWith form a b ≡ partsWith form c d
 same-parts form p q = rw (p, q)
@@ -177,51 +162,3 @@ parts-kind Form.Run first second h = same-parts Form.Run (omega arith) (sym (h .
 parts-kind Form.Wait first second h = same-parts Form.Wait (omega arith) (sym (h .1))
 parts-kind Form.Stop first second h = same-parts Form.Stop (sym (h .0)) (sym (h .1))
 parts-kind Form.Clear first second h = same-parts Form.Clear (sym (h .0)) (sym (h .1))
-
--- Bits are within a goal's limits exactly where those of the single read from them are: they are the same, unless it is no number, and then neither are.
-goal-limits : (x : ℕ) → x < 2 ^ 32
-    → inLimits Layout.Singles 0 0x447fffff (toBits binary32 (ofBits binary32 x)) ≡ inLimits Layout.Singles 0 0x447fffff x
-unfolding toBits
-goal-limits x h = go (ltb 0x7f80_0000 (x % 0x8000_0000)) refl
-  where
-    go : (b : Bool) → ltb 0x7f80_0000 (x % 0x8000_0000) ≡ b
-        → inLimits Layout.Singles 0 0x447fffff (toBits binary32 (ofBits binary32 x)) ≡ inLimits Layout.Singles 0 0x447fffff x
-    go true is =
-        let above = ltb-true 0x7f80_0000 (x % 0x8000_0000) is in
-        rw (high-is-nan x above) (simp (ne-eqb x 0x8000_0000 (λ e. omega arith), le-leb 0 x (omega arith), lt-leb x 0x447fffff (omega arith)))
-    go false is =
-        let number = low-is-number x (ltb-false 0x7f80_0000 (x % 0x8000_0000) is) in
-        rw (toBits-ofBits binary32 x h (rw (nanBits-is binary32 x) at number))
-
--- The judgement on the numbers in the fields is that on the command that is made of them.
-abbrev SameJudged : Form → Bool → ℕ → ℕ → Type 0
-SameJudged form flag one two =
-    let fields = fieldsOf (rowOf form .layout) one two in
-    judgedBy (rowOf form) flag (fields .first) (fields .second) ≡ judged (commandAs form flag one two)
-
--- It is where the numbers are the command's own.
-fits-judged : (form : Form) (flag : Bool) (one two : ℕ) → one < 2 ^ 32 → BitsIn (rowOf form .layout) one two → SameJudged form flag one two
-unfolding judgeCode
-fits-judged form flag one two h bits =
-    let fields = fieldsOf (rowOf form .layout) one two in
-    let same = parts-kind form (fields .first) (fields .second) (fields-within (rowOf form .layout) one two h bits) in
-    sym (ap (λ (parts : Parts). judgedBy (rowOf (parts .form)) flag (parts .first) (parts .second)) same)
-
--- And of a goal too, whose bits may be those of no number.
-pub judged-fields : (form : Form) (flag : Bool) (one two : ℕ) → one < 2 ^ 32 → two < 2 ^ 32 → SameJudged form flag one two
-unfolding judgeCode
-judged-fields Form.ImgPwr flag one two h k = fits-judged Form.ImgPwr flag one two h tt
-judged-fields Form.ImgRegion flag one two h k = fits-judged Form.ImgRegion flag one two h tt
-judged-fields Form.ImgTrack flag one two h k = fits-judged Form.ImgTrack flag one two h tt
-judged-fields Form.TrkAlg flag one two h k = fits-judged Form.TrkAlg flag one two h tt
-judged-fields Form.TrkLoop flag one two h k = fits-judged Form.TrkLoop flag one two h tt
-judged-fields Form.ImgImage flag one two h k = fits-judged Form.ImgImage flag one two h tt
-judged-fields Form.TrkGoal flag one two h k = rw (goal-limits one h, goal-limits two k)
-judged-fields Form.TlmFlush flag one two h k = fits-judged Form.TlmFlush flag one two h tt
-judged-fields Form.FlushAuto flag one two h k = fits-judged Form.FlushAuto flag one two h tt
-judged-fields Form.Open flag one two h k = fits-judged Form.Open flag one two h tt
-judged-fields Form.Close flag one two h k = fits-judged Form.Close flag one two h tt
-judged-fields Form.Run flag one two h k = fits-judged Form.Run flag one two h tt
-judged-fields Form.Wait flag one two h k = fits-judged Form.Wait flag one two h tt
-judged-fields Form.Stop flag one two h k = fits-judged Form.Stop flag one two h tt
-judged-fields Form.Clear flag one two h k = fits-judged Form.Clear flag one two h tt

@@ -35,7 +35,8 @@ use Rattle.wire.proofs.Front.{sum-closed, frontWords, closed-front}
 use Rattle.wire.proofs.Sums.{word-back}
 use Rattle.wire.proofs.Lengths.{few-words, length-closed}
 use Rattle.wire.proofs.Layouts.{argWords, length-packed, form-words, form-found, found-form, Within, fields-packed, packed-fields, BitsIn}
-use Rattle.wire.proofs.Layouts.{fields-within, goal-bits, parts-kind}
+use Rattle.wire.proofs.Layouts.{fields-within, parts-kind}
+use Rattle.wire.proofs.Goals.{goal-bits}
 
 -- A command that a program can hold: each argument within its width, and a goal's are singles.
 abbrev pub HeldKind : Kind → Type 0

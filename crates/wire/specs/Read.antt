@@ -1,5 +1,5 @@
 -- Reading the command at the front of some bytes: rows 1 to 10 of 01's codes, and how far the command reaches.
-use Prim.Native.Nat.{ℕ, zero, suc, _+_, _*_, _/_, _%_, _-_}
+use Prim.Native.Nat.{ℕ, zero, suc, _*_, _/_, _%_, _-_}
 use mathlib.Core.List.{List, [], _∷_, _++_}
 use mathlib.Core.Bool.{Bool, true, false, cond, not, _||_}
 use lib.ListN.{length}
@@ -78,7 +78,8 @@ reachChecks s =
 abbrev pub reachCode : List ℕ → ℕ
 reachCode s = firstOf (reachChecks s)
 
--- Rows 7 to 10, where the form is known.
+-- Rows 7 to 10, where the form is known. Rows 8 to 10 are asked of the decoded command, whose goal is two singles; that this is 01's rule on the fields
+-- as they stand on the wire, goals by their raw bits, is proved in proofs/Goals (`rows-on-wire`, `goal-judged`).
 abbrev pub formChecks : Form → Bool → ℕ → ℕ → List Check
 formChecks form flag one two =
     7 when not (eqb (fieldsOf (rowOf form .layout) one two .pad) 0) ∷ argChecks (commandAs form flag one two)
