@@ -4,6 +4,7 @@ pub mod Laws
 pub mod Order
 pub mod Unique
 pub mod RoundTrip
+pub mod Calls
 pub mod Answers
 pub mod Bytes
 pub mod Modes

@@ -5,6 +5,7 @@ pub mod Unique
 pub mod Goals
 pub mod Local
 pub mod RoundTrip
+pub mod Calls
 pub mod Answers
 pub mod Front
 pub mod Layouts
