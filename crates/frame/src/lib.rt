@@ -225,7 +225,9 @@ fn spare_bits_zero(s: &[u8]) -> bool
 fn count_holds(s: &[u8]) -> bool
     ensures { λ r. ⌜ r ≡ countHolds (now (s .entry)) ⌝ }
 {
-    (words::byte_at(s, 31) as u32) == u8::count_ones(words::byte_at(s, 30))
+    let count = words::byte_at(s, 31) as u32;
+    let ones = u8::count_ones(words::byte_at(s, 30));
+    count == ones
 }
 
 // The frame that these bytes are.

@@ -6,8 +6,8 @@ use Rattle.frame.proofs.count_holds.Tie as tie
 byte-at-requires : tie.Need-byte-at-requires
 byte-at-requires c κs = search needs
 
-cast-result : tie.Need-cast-result
-cast-result c = search needs
+cast-count : tie.Need-cast-count
+cast-count c = search needs
 
 byte-at-requires-2 : tie.Need-byte-at-requires-2
 byte-at-requires-2 c κs = search needs
@@ -16,4 +16,4 @@ returns : tie.Need-returns
 returns c = rw (c .before .byte-at .ensures, c .byte-at2 .ensures)
 
 pub count-holds-spec : {M : Type 1} → statement M
-count-holds-spec = tie.close (tie.spec byte-at-requires cast-result byte-at-requires-2 returns)
+count-holds-spec = tie.close (tie.spec byte-at-requires cast-count byte-at-requires-2 returns)
