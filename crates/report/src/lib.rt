@@ -15,13 +15,11 @@ pub fn put_record(room: &mut [u8], sender: u8, code: u8, par: u8, number: u32) -
     ensures { λ r. ⌜ codeOf r ≡ putCode (recordBytes sender code par number) (now (room .entry)) ⌝ }
     ensures { λ r. ⌜ now (room .exit) ≡ written (recordBytes sender code par number) (now (room .entry)) ⌝ }
 {
-    if room.len() < RECORD {
-        return Put::NoRoom;
+    let n = words::word_bytes(number);
+    let bytes = [sender, code, par, 0, n[0], n[1], n[2], n[3]];
+    if words::put_bytes(room, &bytes) {
+        Put::Done
+    } else {
+        Put::NoRoom
     }
-    room[0] = sender;
-    room[1] = code;
-    room[2] = par;
-    room[3] = 0;
-    words::put_word(&mut room[4..], number);
-    Put::Done
 }

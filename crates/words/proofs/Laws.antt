@@ -1,11 +1,12 @@
 -- Laws of big-endian numbers: what a reader sees past the end, of a list that goes on, and of bytes that were written.
-use Prim.Native.Nat.{ℕ, _+_, _*_, _-_, _≤_, _<_}
+use Prim.Native.Nat.{ℕ, suc, _+_, _*_, _-_, _≤_, _<_}
 use mathlib.Core.Path.{_≡_, refl, sym, ap, _∙_}
 use mathlib.Core.List.{List, [], _∷_, _++_, append-assoc, append-nil}
 use native.Mathlib.Omega.{arith}
+use native.Mathlib.Nat.{add-zero}
 use native.Mathlib.Numerals.{add-one}
-use lib.ListN.{length, getD, take, drop, length-append, length-take, length-drop, drop-of-length-le, List·getD-eq-default, List·getD-append}
-use lib.Seq.{take-suc, drop-drop, take-all, take-at, drop-at, length-take-le}
+use lib.ListN.{length, getD, set, take, drop, length-append, length-drop, drop-of-length-le, List·getD-eq-default, List·getD-append}
+use lib.Seq.{sets, sets-eq, take-suc, drop-drop, take-all, take-at, drop-at, length-take-le}
 use borrow.Author.Tests.{le-leb, lt-leb}
 use borrow.Rule.Slice.PartMut.{putMid}
 use Rattle.words.specs.BigEndian.{byteAt, halfAt, wordAt, wordBytes, bytesOf, written}
@@ -47,6 +48,23 @@ with-room bytes room h = simp (le-leb _ _ h)
 
 pub no-room : (bytes room : List ℕ) → length room < length bytes → written bytes room ≡ room
 no-room bytes room h = simp (lt-leb _ _ h)
+
+-- Bytes stored one after another from the front on: one byte more, and all of them are what a writer with room leaves.
+pub sets-append : (room : List ℕ) (p : ℕ) (xs ys : List ℕ) → sets (sets room p xs) (p + length xs) ys ≡ sets room p (xs ++ ys)
+sets-append room p [] ys = rw add-zero
+sets-append room p (x ∷ xs) ys =
+    let place : p + suc (length xs) ≡ suc p + length xs = omega arith in
+    rw place (sets-append (set room p x) (suc p) xs ys)
+
+pub sets-next : (bytes room : List ℕ) (i : ℕ) → i < length bytes → set (sets room 0 (take i bytes)) i (getD bytes i 0) ≡ sets room 0 (take (i + 1) bytes)
+sets-next bytes room i more =
+    let place : 0 + length (take i bytes) ≡ i = omega (arith, length-take-le i bytes (omega arith)) in
+    rw (add-one, take-suc bytes i 0 more) (rw place at (sets-append room 0 (take i bytes) (getD bytes i 0 ∷ [])))
+
+pub sets-written : (bytes room : List ℕ) → length bytes ≤ length room → sets room 0 bytes ≡ written bytes room
+sets-written bytes room fits =
+    let front : 0 + length bytes ≡ length bytes = omega arith in
+    sets-eq bytes room 0 (omega arith) ∙ rw (front, with-room bytes room fits)
 
 -- What a writer does to the part of a room that begins at p, said of the whole room.
 pub part-written : (p : ℕ) (bytes room part : List ℕ) → p ≤ length room

@@ -56,6 +56,34 @@ pub fn word_at(s: &[u8], at: usize) -> u32
     (joined(s[at], s[at + 1]) as u32) * 65536 + (joined(s[at + 2], s[at + 3]) as u32)
 }
 
+// The four bytes of a 32-bit number.
+pub fn word_bytes(value: u32) -> [u8; 4]
+    ensures { λ r. ⌜ r ≡ wordBytes value ⌝ }
+{
+    [
+        (value / 65536 / 256) as u8,
+        (value / 65536 % 256) as u8,
+        (value % 65536 / 256) as u8,
+        (value % 65536 % 256) as u8,
+    ]
+}
+
+// Writes bytes at the front of a room.
+pub fn put_bytes(room: &mut [u8], bytes: &[u8]) -> bool
+    ensures { λ r. ⌜ r ≡ hasRoom (now (bytes .entry)) (now (room .entry)) ⌝ }
+    ensures { λ r. ⌜ now (room .exit) ≡ written (now (bytes .entry)) (now (room .entry)) ⌝ }
+{
+    if room.len() < bytes.len() {
+        return false;
+    }
+    let mut i = 0;
+    while i < bytes.len() {
+        room[i] = bytes[i];
+        i += 1;
+    }
+    true
+}
+
 // Writes a 32-bit number at the front of a room.
 pub fn put_word(room: &mut [u8], value: u32) -> bool
     ensures { λ r. ⌜ r ≡ hasRoom (wordBytes value) (now (room .entry)) ⌝ }
