@@ -86,7 +86,8 @@ running-byte f = refl
 pub left-bytes : (f : Frame) → halfAt (frameBytes f) 28 ≡ f .left
 left-bytes f = half-back (f .left)
 
--- A frame has 32 bytes, and reading them gives the frame. (For this its fields need not be below their widths; that they are makes them bytes, below.)
+-- A frame has 32 bytes, and reading them gives the frame. (For this its fields need not be below their widths; that they are makes them bytes,
+-- below.)
 pub frame-length : (f : Frame) → length (frameBytes f) ≡ 32
 frame-length f = refl
 

@@ -55,11 +55,11 @@ pub enum Writing {
 // The bytes of a frame.
 pub const SIZE: usize = 32;
 // How many macros there are, the number that stands for none, and the longest a macro runs, in seconds.
-pub const MACROS: u8 = 8;
+const MACROS: u8 = 8;
 
-pub const NONE: u8 = 255;
+const NONE: u8 = 255;
 
-pub const LONGEST: u16 = 600;
+const LONGEST: u16 = 600;
 
 // The code of a refusal.
 pub fn code_of(refusal: Refusal) -> u8
@@ -132,7 +132,7 @@ fn left_holds(f: Frame) -> bool
 }
 
 // Bit m of a byte of marks.
-pub fn is_marked(marks: u8, m: u8) -> bool
+fn is_marked(marks: u8, m: u8) -> bool
     ensures { λ r. ⌜ r ≡ marked marks m ⌝ }
 {
     if m < MACROS {

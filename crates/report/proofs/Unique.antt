@@ -1,4 +1,5 @@
--- 01, "What each promise answers for": two results that one promise allows are equal. The number that 01 gives to a writer's answer says which it was.
+-- 01, "What each promise answers for": two results that one promise allows are equal. The number that 01 gives to a writer's answer says which it
+-- was.
 use mathlib.Core.Path.{_≡_, refl}
 use native.Mathlib.Omega.{arith}
 use Rattle.report.specs.declared.Put.{Put}

@@ -1,4 +1,5 @@
--- From one step of the reader to the answer of the whole: a refusal is an answer whose code is not 0, and each row that passes leaves the rows behind it.
+-- From one step of the reader to the answer of the whole: a refusal is an answer whose code is not 0, and each row that passes leaves the rows
+-- behind it.
 use Prim.Native.Nat.{ℕ, _*_, _-_, _^_, _≤_, _<_}
 use mathlib.Core.Path.{_≡_, refl, sym, ap, _∙_}
 use mathlib.Core.List.{List, [], _∷_}
@@ -54,7 +55,8 @@ refused r code c e =
     let other : eqb code 0 ≡ false = rw (ap (λ (t : Told). t .code) e) at (refusal-code r) in
     rw (e, other)
 
-pub allowed : (code : ℕ) (c : Command) → toldWith 0 0 ≡ toldWith code (parOf code (firstBadIn c)) → record { told = toldWith 0 0; taken = c ∷ [] } ≡ answerFor code c
+pub allowed : (code : ℕ) (c : Command) → toldWith 0 0 ≡ toldWith code (parOf code (firstBadIn c))
+    → record { told = toldWith 0 0; taken = c ∷ [] } ≡ answerFor code c
 allowed code c e = rw (← ap (λ (t : Told). t .code) e)
 
 -- Rows 7 to 10, from what the code holds: the row of the form, the fields by its layout, the judgement on them and the kind made of them.

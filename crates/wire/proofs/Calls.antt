@@ -1,4 +1,5 @@
--- Demand 2, "Commands .. can be written as well as read, and come back equal", of what the two calls answer; and that a refused writing touches nothing.
+-- Demand 2, "Commands .. can be written as well as read, and come back equal", of what the two calls answer; and that a refused writing touches
+-- nothing.
 use Prim.Native.Nat.{ℕ, _*_, _≤_}
 use mathlib.Core.Path.{_≡_, sym, ap, _∙_}
 use mathlib.Core.Logic.{_≢_}
@@ -21,7 +22,8 @@ use Rattle.wire.proofs.Local.{reached}
 use Rattle.wire.proofs.Front.{Bytes}
 use Rattle.wire.proofs.RoundTrip.{Held, read-back, read-allowed, written-back}
 
--- Where `write_command` gave 0, `read_command` of the room afterwards gives the command back with code 0. (`Held`: a command that a program can hold.)
+-- Where `write_command` gave 0, `read_command` of the room afterwards gives the command back with code 0. (`Held`: a command that a program can
+-- hold.)
 pub write-then-read : (c : Command) → Held c → (room : List ℕ) → writeCode c room ≡ 0
     → readOf (roomAfter c room) ≡ record { told = toldWith 0 0; taken = c ∷ [] }
 unfolding judgeCode

@@ -1,5 +1,5 @@
--- 01 gives the rule on a goal for its bits as they stand on the wire. Reading judges the command that was made of them, whose goal is two singles. The
--- answer is the same: a single keeps the bits that it was read from unless they are a not-a-number's, and every one of those is out of range.
+-- 01 gives the rule on a goal for its bits as they stand on the wire. Reading judges the command that was made of them, whose goal is two singles.
+-- The answer is the same: a single keeps the bits that it was read from unless they are a not-a-number's, and every one of those is out of range.
 use Prim.Native.Nat.{ℕ, _%_, _^_, _≤_, _<_}
 use mathlib.Core.Path.{_≡_, refl, sym, ap, ap₂, _∙_}
 use mathlib.Core.Logic.{_↔_, _⊎_, inl, inr}
@@ -93,7 +93,8 @@ same-rows Form.ImgTrack flag one two h k = fits-same Form.ImgTrack flag one two 
 same-rows Form.TrkAlg flag one two h k = fits-same Form.TrkAlg flag one two h tt
 same-rows Form.TrkLoop flag one two h k = fits-same Form.TrkLoop flag one two h tt
 same-rows Form.ImgImage flag one two h k = fits-same Form.ImgImage flag one two h tt
-same-rows Form.TrkGoal flag one two h k = record { checks = rw (goal-limits one h, goal-limits two k); bad = rw (goal-limits one h, goal-limits two k) }
+same-rows Form.TrkGoal flag one two h k =
+    record { checks = rw (goal-limits one h, goal-limits two k); bad = rw (goal-limits one h, goal-limits two k) }
 same-rows Form.TlmFlush flag one two h k = fits-same Form.TlmFlush flag one two h tt
 same-rows Form.FlushAuto flag one two h k = fits-same Form.FlushAuto flag one two h tt
 same-rows Form.Open flag one two h k = fits-same Form.Open flag one two h tt
@@ -103,8 +104,8 @@ same-rows Form.Wait flag one two h k = fits-same Form.Wait flag one two h tt
 same-rows Form.Stop flag one two h k = fits-same Form.Stop flag one two h tt
 same-rows Form.Clear flag one two h k = fits-same Form.Clear flag one two h tt
 
--- Rows 7 to 10 may therefore be read on the wire's own numbers: with words of 32 bits, rows 8 to 10 on the fields as they stand there are those on the
--- command that was made of them, and so is the first bad argument.
+-- Rows 7 to 10 may therefore be read on the wire's own numbers: with words of 32 bits, rows 8 to 10 on the fields as they stand there are those on
+-- the command that was made of them, and so is the first bad argument.
 pub rows-on-wire : (form : Form) (flag : Bool) (one two : ℕ) → one < 2 ^ 32 → two < 2 ^ 32
     → let fields = fieldsOf (rowOf form .layout) one two in
     (formChecks form flag one two ≡ 7 when not (eqb (fields .pad) 0) ∷ rowChecks (rowOf form) flag (fields .first) (fields .second))

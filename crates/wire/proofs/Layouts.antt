@@ -146,7 +146,8 @@ fields-within Layout.Singles one two h bits = bits
 same-parts : (form : Form) {a b c d : ℕ} → a ≡ c → b ≡ d → partsWith form a b ≡ partsWith form c d
 same-parts form p q = rw (p, q)
 
-pub parts-kind : (form : Form) (first second : ℕ) → Within (rowOf form .layout) first second → partsOf (kindOf form first second) ≡ partsWith form first second
+pub parts-kind : (form : Form) (first second : ℕ) → Within (rowOf form .layout) first second
+    → partsOf (kindOf form first second) ≡ partsWith form first second
 parts-kind Form.ImgPwr first second h = same-parts Form.ImgPwr (omega arith) (sym (h .1))
 parts-kind Form.ImgRegion first second h = same-parts Form.ImgRegion (omega arith) (omega arith)
 parts-kind Form.ImgTrack first second h = same-parts Form.ImgTrack (omega arith) (omega arith)

@@ -1,5 +1,6 @@
 -- Laws of one command on the wire, in three groups: what a reader of this crate wants to know (the order of the codes, that results are
--- unique, the rule on a goal's bits, what a parameter says, what a read looks at, round trips), the laws behind those, and the laws behind single functions.
+-- unique, the rule on a goal's bits, what a parameter says, what a read looks at, round trips), the laws behind those, and the laws behind single
+-- functions.
 pub mod Order
 pub mod Unique
 pub mod Goals

@@ -1,4 +1,5 @@
--- Demand 2, "the one code that stands first in the order of checks": a code is given exactly when its row is due and no row before it is; 0 when none is.
+-- Demand 2, "the one code that stands first in the order of checks": a code is given exactly when its row is due and no row before it is; 0 when
+-- none is.
 use Prim.Native.Nat.{ℕ, zero, suc, _<_}
 use mathlib.Core.Path.{_≡_, refl, sym, _∙_}
 use mathlib.Core.Logic.{_↔_}
@@ -103,7 +104,8 @@ at-first n (c ∷ cs) zero r h e = go (c .due) refl e
         absurd (omega (arith, up .0, above (c .code) cs (up .1) (λ z. omega (arith, up .0))))
 at-first n (c ∷ cs) (suc k) r h e = go (c .due) refl e (at-first (c .code) cs k (rise n c cs r .1) (omega arith))
   where
-    go : (b : Bool) → c .due ≡ b → cond b (c .code) (firstOf cs) ≡ rowAt cs k .code → (firstOf cs ≡ rowAt cs k .code → FirstAt cs k) → FirstAt (c ∷ cs) (suc k)
+    go : (b : Bool) → c .due ≡ b → cond b (c .code) (firstOf cs) ≡ rowAt cs k .code
+        → (firstOf cs ≡ rowAt cs k .code → FirstAt cs k) → FirstAt (c ∷ cs) (suc k)
     go true is same more = absurd (omega (arith, row-above (c .code) cs k (rise n c cs r .1) (omega arith)))
     go false is same more = record { before = (is, more same .before); due = more same .due }
 

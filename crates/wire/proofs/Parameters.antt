@@ -1,5 +1,5 @@
--- "an argument out of range; the parameter byte says 1 or 2, the first bad one", of every answer that has a code: the parameter is 1 or 2 exactly with
--- code 8, else 0; and it names the first argument that is out of range.
+-- "an argument out of range; the parameter byte says 1 or 2, the first bad one", of every answer that has a code: the parameter is 1 or 2 exactly
+-- with code 8, else 0; and it names the first argument that is out of range.
 use Prim.Native.Nat.{ℕ}
 use mathlib.Core.Path.{_≡_, refl, sym, _∙_}
 use mathlib.Core.Logic.{_↔_, _≢_, _⊎_, inl, inr, ⊎-elim}

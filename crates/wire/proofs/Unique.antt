@@ -1,4 +1,5 @@
--- 01, "What each promise answers for": two results that one promise allows are equal. The numbers and values that 01 gives to an answer say which it was.
+-- 01, "What each promise answers for": two results that one promise allows are equal. The numbers and values that 01 gives to an answer say which
+-- it was.
 use mathlib.Core.Path.{_≡_, refl, ap}
 use mathlib.Core.List.{[], _∷_}
 use mathlib.Core.Bool.{cond}

@@ -35,8 +35,8 @@ abbrev pub toldJudged : Judged → Told
 toldJudged Judged.Allowed = toldWith 0 0
 toldJudged (Judged.Refused refusal) = toldOf refusal
 
--- 01: a goal's bits may also be exactly 0x80000000 (minus zero). With the limits of its row this is 01's rule on a goal (proofs/Goals, `goal-allowed`),
--- and a not-a-number is out of range whatever its bits are (`nan-refused`).
+-- 01: a goal's bits may also be exactly 0x80000000 (minus zero). With the limits of its row this is 01's rule on a goal (proofs/Goals,
+-- `goal-allowed`), and a not-a-number is out of range whatever its bits are (`nan-refused`).
 abbrev pub minusZero : Layout → ℕ → Bool
 minusZero Layout.Bare value = false
 minusZero Layout.Byte value = false

@@ -78,8 +78,8 @@ reachChecks s =
 abbrev pub reachCode : List ℕ → ℕ
 reachCode s = firstOf (reachChecks s)
 
--- Rows 7 to 10, where the form is known. Rows 8 to 10 are asked of the decoded command, whose goal is two singles; that this is 01's rule on the fields
--- as they stand on the wire, goals by their raw bits, is proved in proofs/Goals (`rows-on-wire`, `goal-judged`).
+-- Rows 7 to 10, where the form is known. Rows 8 to 10 are asked of the decoded command, whose goal is two singles; that this is 01's rule on the
+-- fields as they stand on the wire, goals by their raw bits, is proved in proofs/Goals (`rows-on-wire`, `goal-judged`).
 abbrev pub formChecks : Form → Bool → ℕ → ℕ → List Check
 formChecks form flag one two =
     7 when not (eqb (fieldsOf (rowOf form .layout) one two .pad) 0) ∷ argChecks (commandAs form flag one two)

@@ -1,5 +1,5 @@
--- Steps of the code: what its private functions answer on the way to a reading, a judgement or a writing. No public promise of the product needs them;
--- the meanings that 01 gives are in the files before this one.
+-- Steps of the code: what its private functions answer on the way to a reading, a judgement or a writing. No public promise of the product needs
+-- them; the meanings that 01 gives are in the files before this one.
 use Prim.Native.Nat.{ℕ}
 use mathlib.Core.List.{List}
 use mathlib.Core.Bool.{Bool, cond}
@@ -49,4 +49,6 @@ decodedAs form flag one two = answerFor (firstOf (formChecks form flag one two))
 -- `write_allowed`: the answer to a command that rows 8 to 10 passed.
 abbrev pub wroteAllowed : Command → List ℕ → Wrote
 wroteAllowed c room =
-    cond (hasRoom (commandBytes c) room) (record { told = toldWith 0 0; bytes = length (commandBytes c) }) (record { told = toldWith 24 0; bytes = 0 })
+    cond (hasRoom (commandBytes c) room)
+    (record { told = toldWith 0 0; bytes = length (commandBytes c) })
+    (record { told = toldWith 24 0; bytes = 0 })

@@ -1,5 +1,5 @@
--- 01, "A command on the wire": the table, a line to a row, in 01's order. The opcode, length, layout, flag rule and limits of a command stand here alone.
--- Kind says which arguments each command has; Read and Write how each layout puts them into words; Judge that a goal may also be minus zero.
+-- 01, "A command on the wire": the table, a line to a row, in 01's order. The opcode, length, layout, flag rule and limits of a command stand here
+-- alone. Kind says which arguments each command has; Read and Write how each layout puts them into words; Judge that a goal may also be minus zero.
 use Prim.Native.Nat.{ℕ}
 use mathlib.Core.List.{List, [], _∷_}
 use mathlib.Core.Bool.{cond}

@@ -67,7 +67,10 @@ writeCode c room = firstOf (writeChecks c room)
 unfoldable pub wroteAt : Command → List ℕ → Wrote
 unfolding writeCode
 wroteAt c room =
-    record { told = toldWith (writeCode c room) (parOf (writeCode c room) (firstBadIn c)); bytes = cond (eqb (writeCode c room) 0) (length (commandBytes c)) 0 }
+    record {
+      told = toldWith (writeCode c room) (parOf (writeCode c room) (firstBadIn c));
+      bytes = cond (eqb (writeCode c room) 0) (length (commandBytes c)) 0;
+    }
 
 -- The room afterwards: the command at its front and the rest as it was; all of it as it was on a refusal.
 unfoldable pub roomAfter : Command → List ℕ → List ℕ

@@ -21,14 +21,14 @@ pub enum Reading {
 }
 
 // The arguments in the words behind the first, and what stands in their pad.
-pub struct Fields {
+struct Fields {
     pub first: u32,
     pub second: u32,
     pub pad: u32,
 }
 
 // How far the command at the front reaches: some words, or no further command can be found.
-pub enum Reach {
+enum Reach {
     Words(u16),
     Ends(Refusal),
 }

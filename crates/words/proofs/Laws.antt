@@ -56,7 +56,8 @@ sets-append room p (x ∷ xs) ys =
     let place : p + suc (length xs) ≡ suc p + length xs = omega arith in
     rw place (sets-append (set room p x) (suc p) xs ys)
 
-pub sets-next : (bytes room : List ℕ) (i : ℕ) → i < length bytes → set (sets room 0 (take i bytes)) i (getD bytes i 0) ≡ sets room 0 (take (i + 1) bytes)
+pub sets-next : (bytes room : List ℕ) (i : ℕ) → i < length bytes
+    → set (sets room 0 (take i bytes)) i (getD bytes i 0) ≡ sets room 0 (take (i + 1) bytes)
 sets-next bytes room i more =
     let place : 0 + length (take i bytes) ≡ i = omega (arith, length-take-le i bytes (omega arith)) in
     rw (add-one, take-suc bytes i 0 more) (rw place at (sets-append room 0 (take i bytes) (getD bytes i 0 ∷ [])))

@@ -19,8 +19,8 @@ outcome : (p : tie.After-put-bytes)
 outcome p =
     let start = begun p .args in
     let word = p .before .before .before .word-bytes in
-    offered (start .sender) (start .code) (start .par) (start .number) (word .result) (start .room .now) (p .put-bytes .last .0) (p .put-bytes .result)
-    (word .ensures) (p .put-bytes .ensures .0) (p .put-bytes .ensures .1)
+    offered (start .sender) (start .code) (start .par) (start .number) (word .result) (start .room .now)
+    (p .put-bytes .last .0) (p .put-bytes .result) (word .ensures) (p .put-bytes .ensures .0) (p .put-bytes .ensures .1)
 
 word-bytes-requires : tie.Need-word-bytes-requires
 word-bytes-requires c κs = search needs

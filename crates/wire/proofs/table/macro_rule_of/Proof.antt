@@ -1,4 +1,5 @@
--- `wire::table::macro_rule_of` meets its contract: at an opcode of the table its meaning computes, and past them all each test of the meaning is false.
+-- `wire::table::macro_rule_of` meets its contract: at an opcode of the table its meaning computes, and past them all each test of the meaning is
+-- false.
 use borrow.Author.Tests.{ne-eqb}
 use mathlib.Core.Path.{sym, ap}
 use Rattle.wire.specs.Table.{macroRuleOf}
