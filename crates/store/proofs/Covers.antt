@@ -4,8 +4,8 @@ use mathlib.Core.Path.{_≡_, refl, sym, ap, _∙_}
 use mathlib.Core.List.{List, [], _∷_, _++_}
 use mathlib.Core.Bool.{Bool, true, false, cond, _&&_}
 use native.Mathlib.Omega.{arith}
-use lib.ListN.{length, getD, take, length-take, getD-replicate, List·getD-append, List·getD-eq-default}
-use lib.Seq.{getD-take, getD-append-add}
+use lib.ListN.{length, getD, getD-replicate, List·getD-append}
+use lib.Seq.{getD-append-add}
 use lib.Dec.{ltb}
 use borrow.Author.Tests.{lt-ltb, le-ltb, ltb-true, ltb-false}
 use Rattle.wire.specs.declared.kinds.Kind.{Kind}
@@ -15,9 +15,9 @@ use Rattle.store.specs.declared.roles.Role.{Role}
 use Rattle.store.specs.declared.lookup.Covering.{Covering}
 use Rattle.store.specs.Roles.{roleOf}
 use Rattle.store.specs.Slots.{isClosed, entriesOf}
-use Rattle.store.specs.WrittenOut.{writtenOut, entryAt}
+use Rattle.store.specs.WrittenOut.{writtenOut}
 use Rattle.store.specs.LookupSteps.{Asked, TellsBelow, runSpan, spanIn, coverAs, coverIn}
-use Rattle.store.proofs.Lengths.{partAs, partsOf, look, span-told, written-parts, written-none}
+use Rattle.store.proofs.Lengths.{partAs, partsOf, look, span-told, written-parts}
 
 -- One turn of the search: the second is in this entry, or in the rest so much earlier; where there are no entries, nothing covers it.
 module _ (closed : List Bool) (table : List ℕ) (m : ℕ) (e : Command) (es rest : List Command) (role : Role) (span k : ℕ)
@@ -156,13 +156,3 @@ module _ (s : Store) (m k : ℕ) (table : List ℕ) (covering found : Covering) 
 pub asked-below : (s : Store) (m k target rest : ℕ) (table : List ℕ) → Asked s m k table → (target < m) × (rest ≤ k) → Asked s target rest table
 asked-below s m k target rest table asked falls =
     record { number = omega arith; within = omega arith; told = λ j below. asked .told j (omega arith) }
-
--- The lookup is in the first 601 seconds, and a number that no macro has has none.
-pub entry-past : (s : Store) (m k : ℕ) → 601 ≤ k → [] ≡ entryAt s m k
-entry-past s m k past = sym (List·getD-eq-default (take 601 (writtenOut s m)) [] {n = k} (omega (arith, length-take 601 (writtenOut s m))))
-
-pub entry-within : (s : Store) (m k : ℕ) → k < 601 → getD (writtenOut s m) k [] ≡ entryAt s m k
-entry-within s m k within = sym (getD-take 601 (writtenOut s m) k [] within)
-
-pub entry-none : (s : Store) (m k : ℕ) → length (s .counts) ≡ 8 → 8 ≤ m → [] ≡ entryAt s m k
-entry-none s m k counts past = rw (written-none s m counts past)

@@ -20,7 +20,6 @@ use Rattle.store.specs.WrittenOut.{expandAs, expand, flatBelow, flat, ha
 use Rattle.store.specs.Effects.{nextEntry}
 use Rattle.store.proofs.WrittenOut.{Each, lookBelow, flat-at, flat-other}
 use Rattle.store.proofs.Sound.{TargetBelow, SoundEntry, Good, closed-small}
-use Rattle.store.proofs.Running.{closed-lasts}
 
 -- A property of each element of a list.
 abbrev pub All : {A : Type 0} → (A → Type 0) → List A → Type 0
@@ -156,4 +155,4 @@ handed-plainly s good = go (eqb (s .running) 255) refl
     go false e =
         let m = s .running in
         let closed = good .sound .running (eqb-false m 255 e) .closed in
-        rw (e, closed-lasts s good m closed .entry) (all-getD (All Plain) (writtenOut s m) _ [] (written-plainly s good m closed) tt)
+        rw e (all-getD (All Plain) (writtenOut s m) _ [] (written-plainly s good m closed) tt)

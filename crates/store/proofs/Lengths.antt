@@ -14,8 +14,8 @@ use Rattle.store.specs.declared.Store.{Store}
 use Rattle.store.specs.declared.roles.Role.{Role}
 use Rattle.store.specs.Roles.{roleOf}
 use Rattle.store.specs.Slots.{isClosed, entriesOf}
-use Rattle.store.specs.WrittenOut.{expandAs, expand, flatBelow, flat, handOver, seconds, writtenOut, cappedLength, lengthsTo}
-use Rattle.store.specs.LookupSteps.{TellsBelow, runSpan, spanIn, spansIn}
+use Rattle.store.specs.WrittenOut.{expandAs, expand, flatBelow, flat, handOver, seconds, writtenOut}
+use Rattle.store.specs.LookupSteps.{cappedLength, lengthsTo, TellsBelow, runSpan, spanIn, spansIn}
 
 -- The seconds of two lists one after another.
 over-append : (role : Role) (kind : Kind) (a b : List (List Kind)) → handOver role kind (a ++ b) ≡ handOver role kind a ++ b

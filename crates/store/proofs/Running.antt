@@ -5,7 +5,6 @@ use mathlib.Core.List.{List, [], _∷_, _++_}
 use mathlib.Core.Bool.{Bool, true, false, cond, not, _&&_, true≢false, false≢true}
 use native.Mathlib.Omega.{arith}
 use lib.ListN.{length, getD}
-use lib.Seq.{take-all}
 use lib.Dec.{eqb}
 use borrow.Author.Tests.{not-true, not-false, eq-eqb, ne-eqb}
 use Rattle.words.proofs.Tests.{both}
@@ -16,29 +15,22 @@ use Rattle.store.specs.declared.Store.{Store}
 use Rattle.store.specs.declared.roles.Role.{Role}
 use Rattle.store.specs.Roles.{roleOf, isRun, isClear, numberOf}
 use Rattle.store.specs.Slots.{countOf, isClosed, entriesOf, kept}
-use Rattle.store.specs.WrittenOut.{writtenOut, cappedLength, entryAt}
+use Rattle.store.specs.WrittenOut.{writtenOut}
 use Rattle.store.specs.Checks.{permitCode}
 use Rattle.store.specs.Effects.{startedOf, executedAs, appliedOf, nextEntry, afterSecond, countedDown}
 use Rattle.store.proofs.WrittenOut.{writtenAs, partOf, written-last, as-frame, written-is}
 use Rattle.store.proofs.Sound.{Good, Extends, extends-self, Passed, none-runs, closed-small, lists-stay, runs-extends}
 use Rattle.store.proofs.Sound.{opened-extends, closed-extends, kept-extends, kept-own, appends, applied-executed, executed-passed}
 
--- A closed macro of a sound store lasts 1 to 600 seconds, so the cap of 601 does not touch it.
+-- A closed macro of a sound store lasts 1 to 600 seconds.
 pub record Lasts (s : Store) (m : ℕ) : Type 0 where
   pub least : 1 ≤ length (writtenOut s m)
   pub most : length (writtenOut s m) ≤ 600
-  pub capped : cappedLength s m ≡ length (writtenOut s m)
-  pub entry : (k : ℕ) → entryAt s m k ≡ getD (writtenOut s m) k []
 
 pub closed-lasts : (s : Store) → Good s → (m : ℕ) → isClosed s m ≡ true → Lasts s m
 closed-lasts s good m c =
     let h = good .sound .closed m (closed-small s (good .shaped) m c) c in
-    record {
-      least = h .lasts;
-      most = h .ends;
-      capped = omega (arith, h .ends);
-      entry = λ k. ap (λ l. getD l k []) (take-all 601 (writtenOut s m) (omega (arith, h .ends)));
-    }
+    record { least = h .lasts; most = h .ends }
 
 -- An executed RUN, STOP or CLEAR.
 abbrev pub isStop : Role → Bool
@@ -82,7 +74,7 @@ executed-extends : (s : Store) → Good s → (r : Role) → Passed s false r �
 executed-extends s good Role.Plain h other = extends-self s
 executed-extends s good (Role.Open m) h other = opened-extends s m (h .no13)
 executed-extends s good Role.Close h other = closed-extends s (good .shaped)
-executed-extends s good (Role.Run m) h other = runs-extends s m (cappedLength s m)
+executed-extends s good (Role.Run m) h other = runs-extends s m (length (writtenOut s m))
 executed-extends s good (Role.Wait n) h other = extends-self s
 executed-extends s good Role.Stop h other = runs-extends s 255 0
 executed-extends s good Role.Clear h other = absurd (true≢false other)
@@ -131,8 +123,8 @@ started-of s good m c free =
       closed = c;
       idle = free;
       running = refl;
-      left = closed-lasts s good m c .capped;
-      list = lists-stay s (startedOf s m) good (runs-extends s m (cappedLength s m)) m c;
+      left = refl;
+      list = lists-stay s (startedOf s m) good (runs-extends s m (length (writtenOut s m))) m c;
     }
 
 -- where it is a RUN,
@@ -258,9 +250,8 @@ pub record Second (s : Store) (k : ℕ) : Type 0 where
 pub second-of : (s : Store) → Good s → (k : ℕ) → (s .running ≡ 255 → ⊥) → s .left ≡ suc k → Second s k
 second-of s good k busy more =
     let runs = ne-eqb (s .running) 255 busy in
-    let lasts = closed-lasts s good (s .running) (good .sound .running busy .closed) in
     record {
-      handed = rw (runs, lasts .capped) (lasts .entry (length (writtenOut s (s .running)) - s .left));
+      handed = rw runs;
       left = rw runs (omega arith);
       goes-on = λ some. rw (runs, ne-eqb (s .left - 1) 0 (λ e. some (omega arith)));
       ends = λ none. rw (runs, eq-eqb (s .left - 1) 0 (omega arith));

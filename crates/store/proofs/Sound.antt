@@ -18,7 +18,7 @@ use Rattle.store.specs.declared.Store.{Store}
 use Rattle.store.specs.declared.roles.Role.{Role}
 use Rattle.store.specs.Roles.{roleOf, isRun, numberOf}
 use Rattle.store.specs.Slots.{emptySlot, countOf, isClosed, entriesOf, kept}
-use Rattle.store.specs.WrittenOut.{writtenOut, cappedLength}
+use Rattle.store.specs.WrittenOut.{writtenOut}
 use Rattle.store.specs.Checks.{row11, row12, row13, row14, row15, row16, row17, row18, row19, permitCode, storeChecks}
 use Rattle.store.specs.Effects.{storeWith, freshSlots, freshStore, appendedOf, openedOf, closedOf, startedOf}
 use Rattle.store.specs.Effects.{stoppedOf, clearedOf, executedAs, appliedOf, countedDown, afterSecond}
@@ -90,7 +90,7 @@ each-map P Q f [] h = tt
 each-map P Q f (e ∷ es) h = (f e (h .0), each-map P Q f es (h .1))
 
 -- A test of every number below n and a fact of each.
-below-of : (n : ℕ) (test : ℕ → Bool) → allBelow n test ≡ true → (k : ℕ) → k < n → test k ≡ true
+pub below-of : (n : ℕ) (test : ℕ → Bool) → allBelow n test ≡ true → (k : ℕ) → k < n → test k ≡ true
 unfolding allBelow
 below-of zero test h k less = absurd (omega arith)
 below-of (suc n) test h k less = go (eqb k n) refl (below-of n test (both (allBelow n test) (test n) h .0) k)
@@ -142,7 +142,7 @@ entries-of s m h = each-of (entryHolds s m) (SoundEntry s m) (entry-of s m) (ent
 of-entries : (s : Store) (m : ℕ) → Each (SoundEntry s m) (entriesOf s m) → entriesHold s m ≡ true
 of-entries s m h = of-each (entryHolds s m) (SoundEntry s m) (of-entry s m) (entriesOf s m) h
 
-closed-of : (s : Store) (m : ℕ) → closedHolds s m ≡ true → SoundClosed s m
+pub closed-of : (s : Store) (m : ℕ) → closedHolds s m ≡ true → SoundClosed s m
 closed-of s m h =
     let n = countOf s m in
     let l = length (writtenOut s m) in
@@ -244,14 +244,15 @@ pub good-of : (s : Store) → Shaped s → storeSound s ≡ true → Marks s →
 good-of s shape sound marks = record { shaped = shape; sound = sound-of s sound; marks = marks }
 
 -- Only the eight macros can be closed.
-pub closed-small : (s : Store) → Shaped s → (m : ℕ) → isClosed s m ≡ true → m < 8
-closed-small s shape m c = go (ltb m 8) refl
+pub mark-small : (marks : List Bool) (m : ℕ) → length marks ≡ 8 → getD marks m false ≡ true → m < 8
+mark-small marks m eight c = go (ltb m 8) refl
   where
     go : (b : Bool) → ltb m 8 ≡ b → m < 8
     go true e = ltb-true m 8 e
-    go false e =
-        absurd
-        (true≢false (sym c ∙ List·getD-eq-default (s .closed) false (let le : 8 ≤ m = ltb-false m 8 e in omega (arith, shape .marks))))
+    go false e = absurd (true≢false (sym c ∙ List·getD-eq-default marks false (let le : 8 ≤ m = ltb-false m 8 e in omega arith)))
+
+pub closed-small : (s : Store) → Shaped s → (m : ℕ) → isClosed s m ≡ true → m < 8
+closed-small s shape m c = mark-small (s .closed) m (shape .marks) c
 
 -- A window of a list does not see what is set outside of it.
 module _ (l : List Command) (c : Command) (i from n : ℕ) where
@@ -579,7 +580,7 @@ pub started-keeps : (s : Store) → Good s → (m : ℕ) → isClosed s m ≡ tr
 started-keeps s good m c =
     let small = closed-small s (good .shaped) m c in
     let h = good .sound .closed m small c in
-    good-running s good m (cappedLength s m) (λ busy. c) (λ busy. (omega (arith, h .lasts), omega (arith, h .lasts))) (λ e. absurd (omega arith))
+    good-running s good m (length (writtenOut s m)) (λ busy. c) (λ busy. (h .lasts, omega arith)) (λ e. absurd (omega arith))
 
 -- A second keeps a store sound too.
 counted-keeps : (s : Store) → Good s → (s .running ≡ 255 → ⊥) → Good (countedDown s)

@@ -1,23 +1,23 @@
 -- Laws of the store's soundness: tests of all entries and of all macros, one after another, and lengths that are told up to 601.
-use Prim.Native.Nat.{ℕ, zero, suc, _+_, _≤_, _<_}
+use Prim.Native.Nat.{ℕ, _+_, _≤_, _<_}
 use mathlib.Core.Path.{_≡_, refl, sym, ap, _∙_}
 use mathlib.Core.List.{List, [], _∷_}
-use mathlib.Core.Bool.{Bool, true, false, _&&_, _||_}
+use mathlib.Core.Bool.{Bool, true, false, _&&_, _||_, true≢false}
 use native.Mathlib.Omega.{arith}
 use native.Mathlib.Numerals.{add-one}
-use lib.ListN.{length, getD, List·getD-eq-default}
+use lib.ListN.{length, getD}
 use lib.Dec.{leb, eqb}
-use borrow.Author.Tests.{leb-true, leb-false, eq-eqb, ne-eqb, eqb-true, eqb-false}
-use Rattle.words.proofs.Tests.{both}
+use borrow.Author.Tests.{leb-true, leb-false, eq-eqb, ne-eqb}
 use Rattle.wire.specs.declared.kinds.Command.{Command}
 use Rattle.wire.specs.declared.judging.Refusal.{Refusal}
 use Rattle.wire.specs.declared.judging.Judged.{Judged}
 use Rattle.wire.specs.Judge.{toldOf, toldJudged, judged, judgeCode}
 use Rattle.store.specs.declared.Store.{Store}
 use Rattle.store.specs.Slots.{countOf, isClosed}
-use Rattle.store.specs.WrittenOut.{writtenOut, cappedLength}
-use Rattle.store.specs.LookupSteps.{TellsBelow}
-use Rattle.store.specs.Sound.{allBelow, allOf, closedHolds, macroHolds, runningHolds, entriesHold}
+use Rattle.store.specs.WrittenOut.{writtenOut}
+use Rattle.store.specs.LookupSteps.{cappedLength, lengthsTo, TellsBelow, Due}
+use Rattle.store.specs.Sound.{allBelow, allOf, macroHolds, runningHolds, entriesHold, storeSound}
+use Rattle.store.proofs.Sound.{below-of, closed-of, sound-of, mark-small}
 
 -- A command passes 8 to 10 exactly where the wire's judgement allows it: no refusal has the code 0.
 refusal-code : (refusal : Refusal) → eqb (toldOf refusal .code) 0 ≡ false
@@ -64,25 +64,12 @@ pub below-on : (test : ℕ → Bool) (n : ℕ) → allBelow n test ≡ true → 
 unfolding allBelow
 below-on test n all here = rw (add-one, allBelow, all, here)
 
-and-false : (a : Bool) → (a && false) ≡ false
-and-false true = refl
-and-false false = refl
-
 pub below-fail : (test : ℕ → Bool) (n k : ℕ) → k < n → test k ≡ false → allBelow n test ≡ false
-unfolding allBelow
-below-fail test zero k h fails = absurd (omega arith)
-below-fail test (suc n) k h fails = go (λ below. below-fail test n k below fails) (eqb k n) refl
+below-fail test n k h fails = go (allBelow n test) refl
   where
-    go : (k < n → allBelow n test ≡ false) → (t : Bool) → eqb k n ≡ t → (allBelow n test && test n) ≡ false
-    go rest true e = rw (← eqb-true k n e, fails) (and-false (allBelow k test))
-    go rest false e = rw (rest (omega (arith, eqb-false k n e)))
-
-pub below-each : (test : ℕ → Bool) (n k : ℕ) → k < n → allBelow n test ≡ true → test k ≡ true
-below-each test n k h all = go (test k) refl
-  where
-    go : (t : Bool) → test k ≡ t → test k ≡ true
-    go true e = e
-    go false e = absurd (let z : _≡_ {A = Bool} true false = sym all ∙ below-fail test n k h e in let o : _≡_ {A = ℕ} 0 1 = cc in omega arith)
+    go : (t : Bool) → allBelow n test ≡ t → allBelow n test ≡ false
+    go true e = absurd (true≢false (sym (below-of n test e k h) ∙ fails))
+    go false e = e
 
 -- A length that is told up to 601 passes the tests against 1, 600 and the seconds left as the length itself does.
 same-leb : (a b x y : ℕ) → (a ≤ b → x ≤ y) → (x ≤ y → a ≤ b) → leb a b ≡ leb x y
@@ -111,23 +98,6 @@ module _ (s : Store) (m count : ℕ) (shut : Bool) (counted : count ≡ countOf 
   other-told is opened = rw (← marked, is, ne-eqb (s .opened) m opened)
 
 -- Where every macro holds, the running one's capped length is its length.
-short : (s : Store) (m : ℕ) → isClosed s m ≡ true → macroHolds s m ≡ true → length (writtenOut s m) ≤ 600
-short s m shut holds =
-    let judged : closedHolds s m ≡ true = rw shut at holds in
-    let before : Bool = leb 1 (countOf s m) && leb (countOf s m) 24 && leb 1 (length (writtenOut s m)) in
-    let fits : Bool = leb (length (writtenOut s m)) 600 in
-    leb-true (length (writtenOut s m)) 600 (both before fits (both (before && fits) (entriesHold s m) judged .0) .1)
-
--- A mark that is set is one of the eight.
-below : (n : ℕ) (marks : List Bool) (m : ℕ) → length marks ≡ n → getD marks m false ≡ true → m < n
-below n marks m long set = go (leb n m) refl
-  where
-    go : (t : Bool) → leb n m ≡ t → m < n
-    go false e = leb-false n m e
-    go true e =
-        let none : getD marks m false ≡ false = List·getD-eq-default marks false {n = m} (omega (arith, leb-true n m e)) in
-        absurd (let z : _≡_ {A = ℕ} 0 1 = cc in omega arith)
-
 pub running-told : (s : Store) (table : List ℕ) → length (s .closed) ≡ 8
     → TellsBelow s 8 table
     → allBelow 8 (macroHolds s) ≡ true
@@ -139,7 +109,16 @@ running-told s table marks tells all = go (isClosed s (s .running)) refl
         ≡ (eqb (s .running) 255 || (t && leb 1 (s .left) && leb (s .left) (length (writtenOut s (s .running)))))
     go false shut = refl
     go true shut =
-        let number : s .running < 8 = below 8 (s .closed) (s .running) marks shut in
-        let fits = short s (s .running) shut (below-each (macroHolds s) 8 (s .running) number all) in
+        let number : s .running < 8 = mark-small (s .closed) (s .running) marks shut in
+        let fits = closed-of s (s .running) (rw shut at (below-of 8 (macroHolds s) all (s .running) number)) .ends in
         let same : getD table (s .running) 0 ≡ length (writtenOut s (s .running)) = tells (s .running) number ∙ omega arith in
         rw same
+
+-- So the macro that a sound store runs is one of the eight, and its length is told whole.
+pub running-due : (s : Store) (table : List ℕ) → length (s .closed) ≡ 8 → storeSound s ≡ true → (s .running ≡ 255 → ⊥) → table ≡ lengthsTo s 8
+    → Due s (s .running) table
+running-due s table marks sound busy is =
+    let judged = sound-of s sound in
+    let closed = judged .running busy .closed in
+    let number = mark-small (s .closed) (s .running) marks closed in
+    record { number = number; whole = judged .closed (s .running) number closed .ends; told = is }

@@ -16,15 +16,15 @@ use Rattle.store.specs.declared.roles.Role.{Role}
 use Rattle.store.specs.declared.tally.Tally.{Tally}
 use Rattle.store.specs.Roles.{roleOf}
 use Rattle.store.specs.Slots.{isClosed, entriesOf, kept}
-use Rattle.store.specs.WrittenOut.{flat, writtenOut, cappedLength, lengthsTo}
-use Rattle.store.specs.LookupSteps.{spanIn}
+use Rattle.store.specs.WrittenOut.{flat, writtenOut}
+use Rattle.store.specs.LookupSteps.{cappedLength, lengthsTo, spanIn}
 use Rattle.store.specs.Checks.{permitCode}
 use Rattle.store.specs.Effects.{openedOf, closedOf, clearedOf, executedAs, appliedOf}
 use Rattle.store.specs.TallySteps.{tallyOf, storeOf, tallyCode, hasSlot, appendedBy, executedBy, tallyAfter, entriesAfter, Tallied}
 use Rattle.store.proofs.WrittenOut.{partOf, written-is, written-none, part-run, part-wait, part-other}
 use Rattle.store.proofs.Sound.{TargetBelow, Shaped, Good, closed-small, Extends, list-stays, lists-stay, Passed, InRange, judged-role}
 use Rattle.store.proofs.Sound.{runningAs, opened-extends, closed-extends, kept-extends, Appends, appends, applied-executed, executed-passed}
-use Rattle.store.proofs.Running.{kept-written}
+use Rattle.store.proofs.Running.{closed-lasts, kept-written}
 use Rattle.store.proofs.Laws.{over-capped}
 use Rattle.store.proofs.Lengths.{length-lengthsTo, lengths-tell}
 use Rattle.store.proofs.Lengths as table-laws
@@ -145,15 +145,17 @@ module _ (es : List Command) (t : Tally) (tells : Tells (storeOf es t) (t .lengt
   unfolding tallyCode permitCode
   parts-code c = rw (tells .lengths (t .opened) (inr refl), over-capped (length (writtenOut (storeOf es t) (t .opened))))
 
-  -- An executed command, by its role: only RUN asks for a length.
-  executed-effect : (r : Role) → Passed (storeOf es t) false r → storeOf es (executedBy t r) ≡ executedAs (storeOf es t) r
-  executed-effect Role.Plain h = refl
-  executed-effect (Role.Open m) h = refl
-  executed-effect Role.Close h = refl
-  executed-effect (Role.Run m) h = ap (λ n. runningAs (storeOf es t) m n) (tells .lengths m (inl (not-false (isClosed (storeOf es t) m) (h .no18))))
-  executed-effect (Role.Wait n) h = refl
-  executed-effect Role.Stop h = refl
-  executed-effect Role.Clear h = refl
+  -- An executed command, by its role: only RUN asks for a length, of a closed macro, which the cap of 601 does not touch.
+  executed-effect : Good (storeOf es t) → (r : Role) → Passed (storeOf es t) false r → storeOf es (executedBy t r) ≡ executedAs (storeOf es t) r
+  executed-effect good Role.Plain h = refl
+  executed-effect good (Role.Open m) h = refl
+  executed-effect good Role.Close h = refl
+  executed-effect good (Role.Run m) h =
+      let closed = not-false (isClosed (storeOf es t) m) (h .no18) in
+      ap (λ n. runningAs (storeOf es t) m n) (tells .lengths m (inl closed) ∙ omega (arith, closed-lasts (storeOf es t) good m closed .most))
+  executed-effect good (Role.Wait n) h = refl
+  executed-effect good Role.Stop h = refl
+  executed-effect good Role.Clear h = refl
 
   -- What the table tells after it.
   executed-tells : Good (storeOf es t) → (r : Role) → InRange r → Passed (storeOf es t) false r
@@ -162,7 +164,7 @@ module _ (es : List Command) (t : Tally) (tells : Tells (storeOf es t) (t .lengt
   executed-tells good (Role.Open m) range h = opened-tells (storeOf es t) good (t .lengths) tells m range (h .no13)
   executed-tells good Role.Close range h =
       closed-tells (storeOf es t) good (t .lengths) tells (good .marks .opened (eqb-false (t .opened) 255 (h .no11)))
-  executed-tells good (Role.Run m) range h = running-tells (storeOf es t) good (t .lengths) tells m (cappedLength (storeOf es t) m)
+  executed-tells good (Role.Run m) range h = running-tells (storeOf es t) good (t .lengths) tells m (length (writtenOut (storeOf es t) m))
   executed-tells good (Role.Wait n) range h = tells
   executed-tells good Role.Stop range h = running-tells (storeOf es t) good (t .lengths) tells 255 0
   executed-tells good Role.Clear range h = cleared-tells (storeOf es t) good (t .lengths) tells
@@ -182,7 +184,7 @@ module _ (es : List Command) (t : Tally) (tells : Tells (storeOf es t) (t .lengt
             let a = appends (storeOf es t) good c e judge permit in
             rw (a .effect, e, slot-found c a)
         go false e =
-            rw (applied-executed (storeOf es t) c e, e) (executed-effect (roleOf (c .kind)) (executed-passed (storeOf es t) c e permit))
+            rw (applied-executed (storeOf es t) c e, e) (executed-effect good (roleOf (c .kind)) (executed-passed (storeOf es t) c e permit))
 
     parts-tells : Tells (appliedOf (storeOf es t) c) (tallyAfter t c .lengths)
     unfolding tallyAfter

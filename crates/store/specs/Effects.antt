@@ -2,7 +2,7 @@
 use Prim.Native.Nat.{ℕ, _-_}
 use mathlib.Core.List.{List, [], _∷_}
 use mathlib.Core.Bool.{Bool, true, false, cond, not, _&&_}
-use lib.ListN.{set, replicate}
+use lib.ListN.{length, getD, set, replicate}
 use lib.Dec.{ltb, eqb}
 use Rattle.wire.specs.declared.kinds.Kind.{Kind}
 use Rattle.wire.specs.declared.kinds.Command.{Command}
@@ -11,7 +11,7 @@ use Rattle.store.specs.declared.roles.Role.{Role}
 use Rattle.store.specs.declared.lookup.Handed.{Handed}
 use Rattle.store.specs.Roles.{roleOf}
 use Rattle.store.specs.Slots.{emptySlot, idle, full, kept}
-use Rattle.store.specs.WrittenOut.{cappedLength, entryAt}
+use Rattle.store.specs.WrittenOut.{writtenOut}
 
 abbrev pub storeWith : List Command → List ℕ → List Bool → ℕ → ℕ → ℕ → Store
 storeWith entries counts closed opened running left =
@@ -38,7 +38,7 @@ closedOf s = storeWith (s .entries) (s .counts) (set (s .closed) (s .opened) tru
 
 -- "RUN makes its macro run from its first entry": all of its seconds are left.
 abbrev pub startedOf : Store → ℕ → Store
-startedOf s m = storeWith (s .entries) (s .counts) (s .closed) (s .opened) m (cappedLength s m)
+startedOf s m = storeWith (s .entries) (s .counts) (s .closed) (s .opened) m (length (writtenOut s m))
 
 -- "STOP makes the bench idle"
 abbrev pub stoppedOf : Store → Store
@@ -69,7 +69,7 @@ handedOf (Handed.Over kind) = kind ∷ []
 
 -- "if a macro runs, the next entry of its written-out list is handed over ..": of L seconds with `left` left, entry L - left.
 abbrev pub nextEntry : Store → List Kind
-nextEntry s = cond (idle s) [] (entryAt s (s .running) (cappedLength s (s .running) - s .left))
+nextEntry s = cond (idle s) [] (getD (writtenOut s (s .running)) (length (writtenOut s (s .running)) - s .left) [])
 
 -- ".. after the last one the bench is idle."
 abbrev pub countedDown : Store → Store

@@ -1,9 +1,9 @@
 -- The written-out list of a macro by a table of lengths, without writing it out: what one entry adds to it, and which entry covers a second.
-use Prim.Native.Nat.{ℕ, _+_, _-_, _<_}
+use Prim.Native.Nat.{ℕ, zero, suc, _+_, _-_, _≤_, _<_, min}
 use mathlib.Core.Path.{_≡_}
 use mathlib.Core.List.{List, [], _∷_}
 use mathlib.Core.Bool.{Bool, false, cond, _&&_}
-use lib.ListN.{getD}
+use lib.ListN.{length, getD, set, replicate}
 use lib.Dec.{ltb}
 use Rattle.wire.specs.declared.kinds.Kind.{Kind}
 use Rattle.wire.specs.declared.kinds.Command.{Command}
@@ -11,7 +11,16 @@ use Rattle.store.specs.declared.Store.{Store}
 use Rattle.store.specs.declared.roles.Role.{Role}
 use Rattle.store.specs.declared.lookup.Covering.{Covering}
 use Rattle.store.specs.Roles.{roleOf}
-use Rattle.store.specs.WrittenOut.{cappedLength}
+use Rattle.store.specs.WrittenOut.{writtenOut}
+
+-- Lengths are told up to 601: a longer list is refused at CLOSE, and no sound store has one.
+abbrev pub cappedLength : Store → ℕ → ℕ
+cappedLength s m = min 601 (length (writtenOut s m))
+
+-- The capped lengths of the macros below n, as a table of all eight; 0 for the others.
+unfoldable pub lengthsTo : Store → ℕ → List ℕ
+lengthsTo s zero = replicate 8 0
+lengthsTo s (suc n) = set (lengthsTo s n) n (cappedLength s n)
 
 -- A table that tells the lengths of the macros below m.
 abbrev pub TellsBelow : Store → ℕ → List ℕ → Type 0
@@ -59,3 +68,9 @@ pub record Asked (s : Store) (m k : ℕ) (table : List ℕ) : Type 0 where
   pub number : m < 8
   pub within : k < 601
   pub told : TellsBelow s m table
+
+-- What the lookup of the entry that is due in macro m is handed: a macro whose length is told whole, and the table of all lengths.
+pub record Due (s : Store) (m : ℕ) (table : List ℕ) : Type 0 where
+  pub number : m < 8
+  pub whole : length (writtenOut s m) ≤ 600
+  pub told : table ≡ lengthsTo s 8

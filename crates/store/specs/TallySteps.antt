@@ -15,8 +15,7 @@ use Rattle.store.specs.declared.tally.Tally.{Tally}
 use Rattle.store.specs.declared.tally.Survey.{Survey}
 use Rattle.store.specs.Roles.{roleOf}
 use Rattle.store.specs.Slots.{isClosed, slotAt}
-use Rattle.store.specs.WrittenOut.{cappedLength, lengthsTo}
-use Rattle.store.specs.LookupSteps.{spanIn}
+use Rattle.store.specs.LookupSteps.{cappedLength, lengthsTo, spanIn}
 use Rattle.store.specs.Checks.{rowsFor}
 use Rattle.store.specs.Effects.{storeWith}
 use Rattle.store.specs.Sound.{storeSound}

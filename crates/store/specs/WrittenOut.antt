@@ -1,9 +1,9 @@
 -- "The written-out list of a macro takes its entries in order; an appended RUN is replaced by the whole written-out list of its target,
 -- and WAIT n by n entries that do nothing."
-use Prim.Native.Nat.{ℕ, zero, suc, min}
+use Prim.Native.Nat.{ℕ, zero, suc}
 use mathlib.Core.List.{List, [], _∷_, _++_}
 use mathlib.Core.Bool.{Bool, true, false, cond}
-use lib.ListN.{length, getD, take, set, replicate}
+use lib.ListN.{replicate}
 use lib.Dec.{eqb}
 use Rattle.wire.specs.declared.kinds.Kind.{Kind}
 use Rattle.wire.specs.declared.kinds.Command.{Command}
@@ -59,16 +59,3 @@ seconds (k ∷ ks) = handOver (roleOf k) k (seconds ks)
 unfoldable pub writtenOut : Store → ℕ → List (List Kind)
 unfolding flat
 writtenOut s m = seconds (flat s m)
-
--- Lengths are told up to 601: a longer list is refused at CLOSE, and no sound store has one.
-abbrev pub cappedLength : Store → ℕ → ℕ
-cappedLength s m = min 601 (length (writtenOut s m))
-
--- Entry k, from 0, of the written-out list, looked for in its first 601 seconds.
-abbrev pub entryAt : Store → ℕ → ℕ → List Kind
-entryAt s m k = getD (take 601 (writtenOut s m)) k []
-
--- The capped lengths of the macros below n, as a table of all eight; 0 for the others.
-unfoldable pub lengthsTo : Store → ℕ → List ℕ
-lengthsTo s zero = replicate 8 0
-lengthsTo s (suc n) = set (lengthsTo s n) n (cappedLength s n)

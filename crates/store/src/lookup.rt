@@ -3,10 +3,10 @@
 ghost use Prim.Native.Nat.{_+_, _-_, _<_, _≤_, min};
 ghost use mathlib.Core.Path.{_≡_};
 ghost use mathlib.Core.List.{[]};
-ghost use lib.ListN.{getD};
+ghost use lib.ListN.{length, getD};
 ghost use Rattle.store.specs.Slots.{entriesOf};
-ghost use Rattle.store.specs.WrittenOut.{writtenOut, cappedLength, entryAt, lengthsTo};
-ghost use Rattle.store.specs.LookupSteps.{Asked, runSpan, spanIn, spansIn, coverAs, coverIn};
+ghost use Rattle.store.specs.WrittenOut.{writtenOut};
+ghost use Rattle.store.specs.LookupSteps.{lengthsTo, Asked, Due, runSpan, spanIn, spansIn, coverAs, coverIn};
 ghost use Rattle.store.specs.Effects.{handedOf};
 use super::ENTRIES;
 use super::MACROS;
@@ -183,16 +183,9 @@ fn entry_in(store: Store, m: u8, k: u16, table: [u16; 8]) -> Handed
 
 // The entry of macro m's written-out list that is due when so many of its seconds are left, by the table of all lengths.
 pub(crate) fn next_in(store: Store, m: u8, left: u16, table: [u16; 8]) -> Handed
-    requires { ⌜ table ≡ lengthsTo store 8 ⌝ }
-    ensures { λ r. ⌜ handedOf r ≡ entryAt store m (cappedLength store m - left) ⌝ }
+    requires { ⌜ Due store m table ⌝ }
+    ensures { λ r. ⌜ handedOf r ≡ getD (writtenOut store m) (length (writtenOut store m) - left) [] ⌝ }
 {
-    if MACROS <= (m as usize) {
-        return Handed::Nothing;
-    }
     let length = length_at(table, m);
-    let k = less(length, left);
-    if TOO_LONG <= k {
-        return Handed::Nothing;
-    }
-    entry_in(store, m, k, table)
+    entry_in(store, m, less(length, left), table)
 }

@@ -6,7 +6,7 @@ ghost use mathlib.Core.Bool.{false, _&&_, _||_};
 ghost use lib.ListN.{getD};
 ghost use lib.Dec.{leb, eqb};
 ghost use Rattle.wire.specs.Judge.{judgeCode};
-ghost use Rattle.store.specs.WrittenOut.{cappedLength, lengthsTo};
+ghost use Rattle.store.specs.LookupSteps.{cappedLength, lengthsTo};
 ghost use Rattle.store.specs.Fits.{runFits, entryFits};
 ghost use Rattle.store.specs.Sound.{entriesHold, macroHolds, storeSound};
 use super::ENTRIES;

@@ -1,7 +1,9 @@
 -- `store::Store::second` meets its contract: a store that is not sound stays, and so does an idle one; otherwise one second less is left.
+use mathlib.Core.Path.{sym, _∙_}
 use borrow.Author.Tests.{eq-eqb, ne-eqb, not-true, not-false}
 use borrow.Author.Needs.{needs}
 use Rattle.store.specs.SecondSteps.{steppedOf}
+use Rattle.store.proofs.SoundLaws.{running-due}
 use Rattle.store.proofs.Store.second.Statement.{statement}
 use Rattle.store.proofs.Store.second.Tie as tie
 
@@ -33,7 +35,9 @@ returns-2 c =
     rw (c .step-with2 .ensures, ← sound .ensures, not-false (sound .result) (c .before .before .if1 .left), eq-eqb _ 255 (c .before .if2 .taken))
 
 next-in-requires : tie.Need-next-in-requires
-next-in-requires c κs = search needs
+next-in-requires c κs =
+    let sound = c .before .before .holds in
+    running-due _ _ (search needs) (sym (sound .ensures) ∙ not-false (sound .result) (c .before .if1 .left)) (c .if2 .left) (search needs)
 
 less-requires : tie.Need-less-requires
 less-requires c κs = search needs

@@ -3,7 +3,7 @@
 use Prim.Native.Nat.{ℕ, _<_, _-_}
 use mathlib.Core.Path.{refl}
 use native.Mathlib.Omega.{arith}
-use Rattle.store.specs.WrittenOut.{lengthsTo}
+use Rattle.store.specs.LookupSteps.{lengthsTo}
 use Rattle.store.proofs.Lengths.{lengths-more}
 use borrow.Fn.Kinds.{In}
 use borrow.Fn.PlainCycle.{Measures, is, falls, and}
