@@ -247,8 +247,8 @@ pub record Second (s : Store) (k : ℕ) : Type 0 where
   pub goes-on : (k ≡ 0 → ⊥) → afterSecond s .running ≡ s .running
   pub ends : k ≡ 0 → afterSecond s .running ≡ 255
 
-pub second-of : (s : Store) → Good s → (k : ℕ) → (s .running ≡ 255 → ⊥) → s .left ≡ suc k → Second s k
-second-of s good k busy more =
+pub second-of : (s : Store) (k : ℕ) → (s .running ≡ 255 → ⊥) → s .left ≡ suc k → Second s k
+second-of s k busy more =
     let runs = ne-eqb (s .running) 255 busy in
     record {
       handed = rw runs;
@@ -332,7 +332,7 @@ run-second s good m w k run =
     busy e = omega (arith, run .small, run .running)
 
     h : Second s (length w - suc k)
-    h = second-of s good (length w - suc k) busy (run .left ∙ omega (arith, run .going))
+    h = second-of s (length w - suc k) busy (run .left ∙ omega (arith, run .going))
 
     same : writtenOut s (s .running) ≡ w
     same = ap (writtenOut s) (run .running) ∙ run .list

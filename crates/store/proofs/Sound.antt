@@ -2,13 +2,13 @@
 use Prim.Native.Nat.{ℕ, zero, suc, _+_, _*_, _-_, _≤_, _<_, min}
 use mathlib.Core.Path.{_≡_, refl, sym, ap, _∙_, subst}
 use mathlib.Core.List.{List, [], _∷_, _++_}
-use mathlib.Core.Bool.{Bool, true, false, cond, not, _&&_, _||_, true≢false}
+use mathlib.Core.Bool.{Bool, true, false, cond, not, _&&_, true≢false}
 use native.Mathlib.Omega.{arith}
 use lib.ListN.{length, getD, take, drop, set, replicate, length-append}
 use lib.ListN.{length-take, length-drop, length-set, length-replicate, List·getD-eq-default, getD-replicate}
 use lib.Seq.{getD-set-same, getD-set-other, drop-set-lt, drop-set-add, take-set-le, take-suc-set}
 use lib.Dec.{T, leb, ltb, eqb}
-use borrow.Author.Tests.{ltb-true, ltb-false, leb-true, leb-false, eqb-true, eqb-false, not-false, lt-ltb, le-leb, lt-leb, eq-eqb, ne-eqb}
+use borrow.Author.Tests.{ltb-true, ltb-false, leb-true, leb-false, eqb-true, eqb-false, not-true, not-false, lt-ltb, le-leb, lt-leb, eq-eqb, ne-eqb}
 use Rattle.words.proofs.Tests.{both}
 use Rattle.wire.specs.declared.kinds.Kind.{Kind}
 use Rattle.wire.specs.declared.kinds.Command.{Command}
@@ -16,13 +16,13 @@ use Rattle.wire.specs.Codes.{Check, firstOf}
 use Rattle.wire.specs.Judge.{judgeCode}
 use Rattle.store.specs.declared.Store.{Store}
 use Rattle.store.specs.declared.roles.Role.{Role}
-use Rattle.store.specs.Roles.{roleOf, isRun, numberOf}
+use Rattle.store.specs.Roles.{roleOf}
 use Rattle.store.specs.Slots.{emptySlot, countOf, isClosed, entriesOf, kept}
 use Rattle.store.specs.WrittenOut.{writtenOut}
 use Rattle.store.specs.Checks.{row11, row12, row13, row14, row15, row16, row17, row18, row19, permitCode, storeChecks}
 use Rattle.store.specs.Effects.{storeWith, freshSlots, freshStore, appendedOf, openedOf, closedOf, startedOf}
 use Rattle.store.specs.Effects.{stoppedOf, clearedOf, executedAs, appliedOf, countedDown, afterSecond}
-use Rattle.store.specs.Sound.{allBelow, allOf, runHolds, entryHolds, entriesHold, closedHolds, openHolds, macroHolds, runningHolds, storeSound}
+use Rattle.store.specs.Sound.{allBelow, allOf, entryHolds, entriesHold, closedHolds, openHolds, macroHolds, runningHolds, storeSound}
 use Rattle.store.proofs.WrittenOut.{Each, TargetIn, RunsIn, written-grown, writtenAs, partOf}
 use Rattle.store.proofs.WrittenOut.{written-is, written-append, part-run, part-wait, part-other}
 
@@ -104,43 +104,53 @@ unfolding allBelow
 of-below zero test h = refl
 of-below (suc n) test h = rw (of-below n test (λ k less. h k (omega arith))) (h n (omega arith))
 
--- A RUN's target: the test and the fact.
-target-of : (s : Store) (m : ℕ) (r : Role) → (not (isRun r) || (ltb (numberOf r) m && isClosed s (numberOf r))) ≡ true → TargetBelow s m r
-target-of s m Role.Plain h = tt
-target-of s m (Role.Open k) h = tt
-target-of s m Role.Close h = tt
-target-of s m (Role.Run k) h = (ltb-true k m (both (ltb k m) (isClosed s k) h .0), both (ltb k m) (isClosed s k) h .1)
-target-of s m (Role.Wait n) h = tt
-target-of s m Role.Stop h = tt
-target-of s m Role.Clear h = tt
+-- Rows 17 and 18 and the fact that they leave of a RUN's target.
+target-of : (s : Store) (m : ℕ) (r : Role) → row17 true r m ≡ false → row18 r (s .closed) ≡ false → TargetBelow s m r
+target-of s m Role.Plain below closed = tt
+target-of s m (Role.Open k) below closed = tt
+target-of s m Role.Close below closed = tt
+target-of s m (Role.Run k) below closed = (leb-false m k below, not-false (isClosed s k) closed)
+target-of s m (Role.Wait n) below closed = tt
+target-of s m Role.Stop below closed = tt
+target-of s m Role.Clear below closed = tt
 
-of-target : (s : Store) (m : ℕ) (r : Role) → TargetBelow s m r → (not (isRun r) || (ltb (numberOf r) m && isClosed s (numberOf r))) ≡ true
-of-target s m Role.Plain h = refl
-of-target s m (Role.Open k) h = refl
-of-target s m Role.Close h = refl
-of-target s m (Role.Run k) h = rw (lt-ltb k m (h .0)) (h .1)
-of-target s m (Role.Wait n) h = refl
-of-target s m Role.Stop h = refl
-of-target s m Role.Clear h = refl
+of-target : (s : Store) (m : ℕ) (r : Role) → TargetBelow s m r → (row17 true r m ≡ false) × (row18 r (s .closed) ≡ false)
+of-target s m Role.Plain h = (refl, refl)
+of-target s m (Role.Open k) h = (refl, refl)
+of-target s m Role.Close h = (refl, refl)
+of-target s m (Role.Run k) h = (lt-leb m k (h .0), ap not (h .1))
+of-target s m (Role.Wait n) h = (refl, refl)
+of-target s m Role.Stop h = (refl, refl)
+of-target s m Role.Clear h = (refl, refl)
 
 -- Clause by clause, the test and the record.
-entry-of : (s : Store) (m : ℕ) (e : Command) → entryHolds s m e ≡ true → SoundEntry s m e
+entry-of : (s : Store) (m : ℕ) (e : Command) → entryHolds (s .closed) m e ≡ true → SoundEntry s m e
 entry-of s m e h =
-    let flagJudge = both (e .flag && eqb (judgeCode e) 0) (runHolds s m e) h in
-    let flag = both (e .flag) (eqb (judgeCode e) 0) (flagJudge .0) in
-    record { flagged = flag .0; allowed = eqb-true (judgeCode e) 0 (flag .1); target = target-of s m (roleOf (e .kind)) (flagJudge .1) }
+    let role = roleOf (e .kind) in
+    let below = row17 (e .flag) role m in
+    let closed = row18 role (s .closed) in
+    let h4 = both (e .flag && eqb (judgeCode e) 0 && not below) (not closed) h in
+    let h3 = both (e .flag && eqb (judgeCode e) 0) (not below) (h4 .0) in
+    let h2 = both (e .flag) (eqb (judgeCode e) 0) (h3 .0) in
+    let upward : row17 true role m ≡ false = ap (λ flag. row17 flag role m) (sym (h2 .0)) ∙ not-true below (h3 .1) in
+    record { flagged = h2 .0; allowed = eqb-true (judgeCode e) 0 (h2 .1); target = target-of s m role upward (not-true closed (h4 .1)) }
 
-of-entry : (s : Store) (m : ℕ) (e : Command) → SoundEntry s m e → entryHolds s m e ≡ true
+of-entry : (s : Store) (m : ℕ) (e : Command) → SoundEntry s m e → entryHolds (s .closed) m e ≡ true
 of-entry s m e h =
-    and-true (e .flag && eqb (judgeCode e) 0) (runHolds s m e)
+    let role = roleOf (e .kind) in
+    let target = of-target s m role (h .target) in
+    let below : row17 (e .flag) role m ≡ false = ap (λ flag. row17 flag role m) (h .flagged) ∙ target .0 in
+    and-true (e .flag && eqb (judgeCode e) 0 && not (row17 (e .flag) role m)) (not (row18 role (s .closed)))
+    (and-true (e .flag && eqb (judgeCode e) 0) (not (row17 (e .flag) role m))
     (and-true (e .flag) (eqb (judgeCode e) 0) (h .flagged) (eq-eqb (judgeCode e) 0 (h .allowed)))
-    (of-target s m (roleOf (e .kind)) (h .target))
+    (ap not below))
+    (ap not (target .1))
 
 entries-of : (s : Store) (m : ℕ) → entriesHold s m ≡ true → Each (SoundEntry s m) (entriesOf s m)
-entries-of s m h = each-of (entryHolds s m) (SoundEntry s m) (entry-of s m) (entriesOf s m) h
+entries-of s m h = each-of (entryHolds (s .closed) m) (SoundEntry s m) (entry-of s m) (entriesOf s m) h
 
 of-entries : (s : Store) (m : ℕ) → Each (SoundEntry s m) (entriesOf s m) → entriesHold s m ≡ true
-of-entries s m h = of-each (entryHolds s m) (SoundEntry s m) (of-entry s m) (entriesOf s m) h
+of-entries s m h = of-each (entryHolds (s .closed) m) (SoundEntry s m) (of-entry s m) (entriesOf s m) h
 
 pub closed-of : (s : Store) (m : ℕ) → closedHolds s m ≡ true → SoundClosed s m
 closed-of s m h =
@@ -780,16 +790,6 @@ pub applied-executed : (s : Store) (c : Command) → c .flag ≡ false → appli
 unfolding appliedOf
 applied-executed s c flag = ap (λ b. cond b (appendedOf s c) (executedAs s (roleOf (c .kind)))) flag
 
--- What the rows say of an appended command.
-target-passed : (s : Store) (r : Role) → Passed s true r → TargetBelow s (s .opened) r
-target-passed s Role.Plain h = tt
-target-passed s (Role.Open k) h = tt
-target-passed s Role.Close h = tt
-target-passed s (Role.Run k) h = (leb-false (s .opened) k (h .no17), not-false (isClosed s k) (h .no18))
-target-passed s (Role.Wait n) h = tt
-target-passed s Role.Stop h = tt
-target-passed s Role.Clear h = tt
-
 -- An accepted append: the open macro has a slot for it, and gets it as its next entry.
 pub record Appends (s : Store) (c : Command) : Type 0 where
   pub small : s .opened < 8
@@ -803,7 +803,7 @@ appends s good c flag judge permit =
     let passed : Passed s true (roleOf (c .kind)) = subst (λ b. Passed s b (roleOf (c .kind))) flag (passes s c permit) in
     let small : s .opened < 8 = good .marks .opened (eqb-false (s .opened) 255 (passed .no11)) in
     let room : countOf s (s .opened) < 24 = leb-false 24 (countOf s (s .opened)) (passed .no16) in
-    let entry : SoundEntry s (s .opened) c = record { flagged = flag; allowed = judge; target = target-passed s (roleOf (c .kind)) passed } in
+    let entry : SoundEntry s (s .opened) c = record { flagged = flag; allowed = judge; target = target-of s (s .opened) (roleOf (c .kind)) (passed .no17) (passed .no18) } in
     record {
       small = small;
       room = room;

@@ -5,7 +5,6 @@ pub mod WrittenOut
 pub mod LookupSteps
 pub mod Checks
 pub mod Effects
-pub mod Fits
 pub mod Sound
 pub mod TallySteps
 pub mod SecondSteps

@@ -13,7 +13,7 @@ use Rattle.store.specs.declared.lookup.Covering.{Covering}
 use Rattle.store.specs.Roles.{roleOf}
 use Rattle.store.specs.WrittenOut.{writtenOut}
 
--- Lengths are told up to 601: a longer list is refused at CLOSE, and no sound store has one.
+-- Lengths are told up to 601: a longer list is refused at CLOSE, so no closed macro of a sound store has one.
 abbrev pub cappedLength : Store → ℕ → ℕ
 cappedLength s m = min 601 (length (writtenOut s m))
 

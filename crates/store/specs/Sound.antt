@@ -1,15 +1,16 @@
 -- The store's part of a sound state, clause by clause.
 use Prim.Native.Nat.{ℕ, zero, suc}
 use mathlib.Core.List.{List, [], _∷_}
-use mathlib.Core.Bool.{Bool, true, cond, _&&_, _||_}
+use mathlib.Core.Bool.{Bool, true, cond, not, _&&_, _||_}
 use lib.ListN.{length}
 use lib.Dec.{leb, eqb}
 use Rattle.wire.specs.declared.kinds.Command.{Command}
+use Rattle.wire.specs.Judge.{judgeCode}
 use Rattle.store.specs.declared.Store.{Store}
 use Rattle.store.specs.Roles.{roleOf}
 use Rattle.store.specs.Slots.{countOf, isClosed, idle, entriesOf}
 use Rattle.store.specs.WrittenOut.{writtenOut}
-use Rattle.store.specs.Fits.{runFits, entryFits}
+use Rattle.store.specs.Checks.{row17, row18}
 
 -- A test of every number below n, and of every element.
 unfoldable pub allBelow : ℕ → (ℕ → Bool) → Bool
@@ -21,14 +22,13 @@ allOf test [] = true
 allOf test (c ∷ cs) = test c && allOf test cs
 
 -- "each entry is a flag-1 command that passes 7 to 10 and, for a RUN, 17 and 18 as in its own macro"
-abbrev pub runHolds : Store → ℕ → Command → Bool
-runHolds s m e = runFits (s .closed) m (roleOf (e .kind))
-
-abbrev pub entryHolds : Store → ℕ → Command → Bool
-entryHolds s m e = entryFits (s .closed) m e
+-- (A decoded command has no pad, so 7 has nothing to say of it.)
+abbrev pub entryHolds : List Bool → ℕ → Command → Bool
+entryHolds closed m e =
+    e .flag && eqb (judgeCode e) 0 && not (row17 (e .flag) (roleOf (e .kind)) m) && not (row18 (roleOf (e .kind)) closed)
 
 abbrev pub entriesHold : Store → ℕ → Bool
-entriesHold s m = allOf (entryHolds s m) (entriesOf s m)
+entriesHold s m = allOf (entryHolds (s .closed) m) (entriesOf s m)
 
 -- "each closed one has 1 to 24 and a length of 1 to 600"
 abbrev pub closedHolds : Store → ℕ → Bool

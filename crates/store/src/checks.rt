@@ -98,7 +98,7 @@ pub fn closes_too_long(role: Role, length: u16) -> bool
 }
 
 // Row 17: appended RUN whose number is not below the open macro's.
-fn runs_upward(flag: bool, role: Role, opened: u8) -> bool
+pub(crate) fn runs_upward(flag: bool, role: Role, opened: u8) -> bool
     ensures { λ r. ⌜ r ≡ row17 flag role opened ⌝ }
 {
     if flag {
@@ -110,7 +110,7 @@ fn runs_upward(flag: bool, role: Role, opened: u8) -> bool
 }
 
 // Row 18: RUN of a macro not closed.
-fn runs_unclosed(role: Role, closed: [bool; 8]) -> bool
+pub(crate) fn runs_unclosed(role: Role, closed: [bool; 8]) -> bool
     ensures { λ r. ⌜ r ≡ row18 role closed ⌝ }
 {
     if is_run(role) {

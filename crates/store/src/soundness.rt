@@ -7,18 +7,16 @@ ghost use lib.ListN.{getD};
 ghost use lib.Dec.{leb, eqb};
 ghost use Rattle.wire.specs.Judge.{judgeCode};
 ghost use Rattle.store.specs.LookupSteps.{cappedLength, lengthsTo};
-ghost use Rattle.store.specs.Fits.{runFits, entryFits};
-ghost use Rattle.store.specs.Sound.{entriesHold, macroHolds, storeSound};
+ghost use Rattle.store.specs.Sound.{entryHolds, entriesHold, macroHolds, storeSound};
 use super::ENTRIES;
 use super::LONGEST;
 use super::MACROS;
 use super::NONE;
 use super::Store;
+use super::checks::runs_unclosed;
+use super::checks::runs_upward;
 use super::lookup::filled;
 use super::lookup::length_at;
-use super::roles::Role;
-use super::roles::is_run;
-use super::roles::number_of;
 use super::roles::role_of;
 use super::slots::closed_at;
 use super::slots::count_at;
@@ -37,34 +35,23 @@ fn passes(entry: Command) -> bool
     }
 }
 
-// A RUN in macro m names a closed macro with a smaller number.
-fn run_holds(role: Role, m: u8, closed: [bool; 8]) -> bool
-    ensures { λ r. ⌜ r ≡ runFits closed m role ⌝ }
-{
-    if is_run(role) {
-        let target = number_of(role);
-        if target < m {
-            closed_at(closed, target)
-        } else {
-            false
-        }
-    } else {
-        true
-    }
-}
-
 // An entry of macro m is a flag-1 command that passes 8 to 10 and, for a RUN, 17 and 18.
 fn entry_holds(entry: Command, m: u8, closed: [bool; 8]) -> bool
-    ensures { λ r. ⌜ r ≡ entryFits closed m entry ⌝ }
+    ensures { λ r. ⌜ r ≡ entryHolds closed m entry ⌝ }
 {
-    if !entry.flag {
+    let flag = entry.flag;
+    if !flag {
         return false;
     }
     if !passes(entry) {
         return false;
     }
     let kind = entry.kind;
-    run_holds(role_of(kind), m, closed)
+    let role = role_of(kind);
+    if runs_upward(flag, role, m) {
+        return false;
+    }
+    !runs_unclosed(role, closed)
 }
 
 // Do all entries of macro m hold?

@@ -17,7 +17,7 @@ use Rattle.store.proofs.soundness.entries_hold.Tie as tie
 -- Whether the entries from i on hold is whether all of them do.
 record Held (store : Store) (m count i : ℕ) : Type 0 where
   walk : Walk store m count
-  held : allOf (entryHolds store m) (drop i (entriesOf store m)) ≡ entriesHold store m
+  held : allOf (entryHolds (store .closed) m) (drop i (entriesOf store m)) ≡ entriesHold store m
 
 abbrev Inv-loop : tie.InvT-loop
 Inv-loop m store closed count at i₀ i = Held store m count i
@@ -63,7 +63,7 @@ returns c =
     let args = c .before .before .before .before .before .before .before .before .before .args in
     let judged = c .before .entry-holds in
     let fails = sym (judged .ensures) ∙ not-true (judged .result) (c .if1 .taken) in
-    sym (all-fail (entryHolds (args .t1) (args .m)) _ _ _ (read (c .before .before .before)) fails) ∙ at .inv .held
+    sym (all-fail (entryHolds (args .t1 .closed) (args .m)) _ _ _ (read (c .before .before .before)) fails) ∙ at .inv .held
 
 add-i : tie.Need-add-i Inv-loop μ-loop
 add-i c = search needs
@@ -79,7 +79,7 @@ loop-again c =
     let holds = sym (judged .ensures) ∙ not-false (judged .result) (c .if1 .left) in
     record {
       walk = at .inv .walk;
-      held = sym (all-on (entryHolds (args .t1) (args .m)) _ _ _ (read (c .before .before .before)) holds) ∙ at .inv .held;
+      held = sym (all-on (entryHolds (args .t1 .closed) (args .m)) _ _ _ (read (c .before .before .before)) holds) ∙ at .inv .held;
     }
 
 returns-2 : tie.Need-returns-2 Inv-loop μ-loop
@@ -87,7 +87,7 @@ returns-2 c =
     let at = c .before .loop in
     let args = c .before .before .before .before .before .args in
     let none = walk-end (args .t1) (args .m) _ (at .i) (at .inv .walk) (omega arith) in
-    sym (all-end (entryHolds (args .t1) (args .m)) _ none) ∙ at .inv .held
+    sym (all-end (entryHolds (args .t1 .closed) (args .m)) _ none) ∙ at .inv .held
 
 pub entries-hold-spec : {M : Type 1} → statement M
 entries-hold-spec =
