@@ -66,11 +66,6 @@ row18 role closed = isRun role && not (getD closed (numberOf role) false)
 abbrev pub row19 : Bool → Role → ℕ → Bool
 row19 flag role running = ((not flag && isRun role) || isClear role) && not (eqb running 255)
 
--- Rows 16 to 19.
-abbrev pub entryChecks : Bool → Role → ℕ → List Bool → ℕ → ℕ → List Check
-entryChecks flag role count closed opened running =
-    16 when row16 flag count ∷ 17 when row17 flag role opened ∷ 18 when row18 role closed ∷ 19 when row19 flag role running ∷ []
-
 -- The rows in their order, on the numbers that they ask: how many entries the open macro has, and how many seconds it lasts.
 abbrev pub rowsFor : Bool → Role → ℕ → List Bool → ℕ → ℕ → ℕ → List Check
 rowsFor flag role opened closed count seconds running =
@@ -79,7 +74,11 @@ rowsFor flag role opened closed count seconds running =
     ∷ 13 when row13 role closed
     ∷ 14 when row14 role count
     ∷ 15 when row15 role seconds
-    ∷ entryChecks flag role count closed opened running
+    ∷ 16 when row16 flag count
+    ∷ 17 when row17 flag role opened
+    ∷ 18 when row18 role closed
+    ∷ 19 when row19 flag role running
+    ∷ []
 
 abbrev pub checksAs : Store → Bool → Role → List Check
 checksAs s flag role =

@@ -1,3 +1,4 @@
+-- Steps of the implementation: no public promise of the product (`bench`, `wire`, `frame`) needs them.
 -- The written-out list of a macro by a table of lengths, without writing it out: what one entry adds to it, and which entry covers a second.
 use Prim.Native.Nat.{ℕ, zero, suc, _+_, _-_, _≤_, _<_, min}
 use mathlib.Core.Path.{_≡_}

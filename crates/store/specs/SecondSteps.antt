@@ -1,3 +1,4 @@
+-- Steps of the implementation: no public promise of the product (`bench`, `wire`, `frame`) needs them.
 -- One second of the store, which judges itself: where it is not sound it stays, and nothing is handed over.
 use Prim.Native.Nat.{ℕ}
 use mathlib.Core.List.{List, []}

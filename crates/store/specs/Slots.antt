@@ -1,4 +1,4 @@
--- Where the entries of a macro are kept. Only `entriesOf` and `slotAt` know the slots; every rule speaks of a macro's entries.
+-- What a store says of one macro, and where its entries are kept. Only `entriesOf` and `slotAt` know the slots; every rule speaks of a macro's entries.
 use Prim.Native.Nat.{ℕ, _+_, _*_, min}
 use mathlib.Core.List.{List}
 use mathlib.Core.Bool.{Bool, true, false}
@@ -7,22 +7,6 @@ use lib.Dec.{leb, eqb}
 use Rattle.wire.specs.declared.kinds.Kind.{Kind}
 use Rattle.wire.specs.declared.kinds.Command.{Command}
 use Rattle.store.specs.declared.Store.{Store}
-
--- Bit m for macro m, as a status frame has the closed macros.
-abbrev pub bit : Bool → ℕ
-bit false = 0
-bit true = 1
-
-abbrev pub marksOf : List Bool → ℕ
-marksOf closed =
-    bit (getD closed 0 false)
-    + bit (getD closed 1 false) * 2
-    + bit (getD closed 2 false) * 4
-    + bit (getD closed 3 false) * 8
-    + bit (getD closed 4 false) * 16
-    + bit (getD closed 5 false) * 32
-    + bit (getD closed 6 false) * 64
-    + bit (getD closed 7 false) * 128
 
 -- What a slot holds before its first use; it matters to nobody.
 abbrev pub emptySlot : Command
@@ -62,3 +46,19 @@ kept s m c =
       running = s .running;
       left = s .left;
     }
+
+-- The closed macros as a status frame has them: "bit m for macro m".
+abbrev pub bit : Bool → ℕ
+bit false = 0
+bit true = 1
+
+abbrev pub marksOf : List Bool → ℕ
+marksOf closed =
+    bit (getD closed 0 false)
+    + bit (getD closed 1 false) * 2
+    + bit (getD closed 2 false) * 4
+    + bit (getD closed 3 false) * 8
+    + bit (getD closed 4 false) * 16
+    + bit (getD closed 5 false) * 32
+    + bit (getD closed 6 false) * 64
+    + bit (getD closed 7 false) * 128

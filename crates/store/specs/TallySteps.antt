@@ -1,14 +1,15 @@
+-- Steps of the implementation: no public promise of the product (`bench`, `wire`, `frame`) needs them.
 -- A tally: the store without its entries, and how long each macro is. It is all that rows 11 to 19 ask, so the commands of a list are judged and take
 -- effect by it, and only a new entry's own slot is touched.
 use Prim.Native.Nat.{ℕ, _+_, min}
 use mathlib.Core.Path.{_≡_}
 use mathlib.Core.Logic.{_⊎_}
-use mathlib.Core.List.{List}
+use mathlib.Core.List.{List, [], _∷_}
 use mathlib.Core.Bool.{Bool, true, false, cond, not, _&&_}
 use lib.ListN.{length, getD, set, replicate}
 use lib.Dec.{leb, ltb}
 use Rattle.wire.specs.declared.kinds.Command.{Command}
-use Rattle.wire.specs.Codes.{Check, firstOf}
+use Rattle.wire.specs.Codes.{Check, _when_, firstOf}
 use Rattle.store.specs.declared.Store.{Store}
 use Rattle.store.specs.declared.roles.Role.{Role}
 use Rattle.store.specs.declared.tally.Tally.{Tally}
@@ -16,7 +17,7 @@ use Rattle.store.specs.declared.tally.Survey.{Survey}
 use Rattle.store.specs.Roles.{roleOf}
 use Rattle.store.specs.Slots.{isClosed, slotAt}
 use Rattle.store.specs.LookupSteps.{cappedLength, lengthsTo, spanIn}
-use Rattle.store.specs.Checks.{rowsFor}
+use Rattle.store.specs.Checks.{row16, row17, row18, row19, rowsFor}
 use Rattle.store.specs.Effects.{storeWith}
 use Rattle.store.specs.Sound.{storeSound}
 
@@ -48,6 +49,11 @@ tallyChecks t c = rowsFor (c .flag) (roleOf (c .kind)) (t .opened) (t .closed) (
 
 unfoldable pub tallyCode : Tally → Command → ℕ
 tallyCode t c = firstOf (tallyChecks t c)
+
+-- Rows 16 to 19 alone: the code tries them past the others.
+abbrev pub entryChecks : Bool → Role → ℕ → List Bool → ℕ → ℕ → List Check
+entryChecks flag role count closed opened running =
+    16 when row16 flag count ∷ 17 when row17 flag role opened ∷ 18 when row18 role closed ∷ 19 when row19 flag role running ∷ []
 
 -- Is there a slot for one more entry of macro m?
 abbrev pub hasSlot : List ℕ → ℕ → Bool

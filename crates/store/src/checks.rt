@@ -1,7 +1,8 @@
 // Rows 11 to 19 of the codes, each as a test on the few numbers that it looks at.
 ghost use mathlib.Core.Path.{_≡_};
 ghost use Rattle.wire.specs.Codes.{firstOf};
-ghost use Rattle.store.specs.Checks.{codeOf, toldPermit, row11, row12, row13, row14, row15, row17, row18, row19, entryChecks};
+ghost use Rattle.store.specs.Checks.{codeOf, toldPermit, row11, row12, row13, row14, row15, row17, row18, row19};
+ghost use Rattle.store.specs.TallySteps.{entryChecks};
 use super::ENTRIES;
 use super::LONGEST;
 use super::NONE;
