@@ -17,7 +17,8 @@ use Rattle.store.specs.Roles.{roleOf}
 use Rattle.store.specs.Slots.{isClosed, entriesOf}
 use Rattle.store.specs.WrittenOut.{writtenOut}
 use Rattle.store.specs.LookupSteps.{Asked, TellsBelow, runSpan, spanIn, coverAs, coverIn}
-use Rattle.store.proofs.Lengths.{partAs, partsOf, look, span-told, written-parts}
+use Rattle.store.proofs.Parts.{partAs, partsOf, look, parts-are}
+use Rattle.store.proofs.Lengths.{span-told}
 
 -- One turn of the search: the second is in this entry, or in the rest so much earlier; where there are no entries, nothing covers it.
 module _ (closed : List Bool) (table : List ℕ) (m : ℕ) (e : Command) (es rest : List Command) (role : Role) (span k : ℕ)
@@ -49,7 +50,8 @@ run-falls closed table m k target = go (ltb target m) (getD closed target false)
     go true false e h = absurd (omega arith)
     go true true e h = ltb-true target m e
 
-here-falls : (closed : List Bool) (table : List ℕ) (m k : ℕ) (kind : Kind) (role : Role) → k < spanIn closed table m role → Falls m k (coverAs role kind k)
+here-falls : (closed : List Bool) (table : List ℕ) (m k : ℕ) (kind : Kind) (role : Role) → k < spanIn closed table m role
+    → Falls m k (coverAs role kind k)
 here-falls closed table m k kind Role.Plain h = tt
 here-falls closed table m k kind (Role.Open n) h = tt
 here-falls closed table m k kind Role.Close h = tt
@@ -142,7 +144,7 @@ module _ (s : Store) (m : ℕ) (table : List ℕ) (told : TellsBelow s m table) 
               seen-on part (partsOf (look s m) es) span k told h (ltb-false k span past) ∙ rest (k - span) (omega arith)
 
   second-seen : (k : ℕ) → k < 601 → getD (writtenOut s m) k [] ≡ seen s (coverIn (s .closed) table m (entriesOf s m) k)
-  second-seen k h = ap (λ l. getD l k []) (written-parts s m) ∙ parts-seen (entriesOf s m) k h
+  second-seen k h = ap (λ l. getD l k []) (parts-are s m) ∙ parts-seen (entriesOf s m) k h
 
 -- What the lookup finds is what second k hands over; where it leads into a target, the same is asked of that one.
 module _ (s : Store) (m k : ℕ) (table : List ℕ) (covering found : Covering) (asked : Asked s m k table)

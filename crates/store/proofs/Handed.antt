@@ -18,7 +18,7 @@ use Rattle.store.specs.Roles.{roleOf}
 use Rattle.store.specs.Slots.{isClosed, entriesOf}
 use Rattle.store.specs.WrittenOut.{expandAs, expand, flatBelow, flat, handOver, seconds, writtenOut}
 use Rattle.store.specs.Effects.{nextEntry}
-use Rattle.store.proofs.WrittenOut.{Each, lookBelow, flat-at, flat-other}
+use Rattle.store.proofs.Flat.{Each, lookBelow, flat-at, flat-other}
 use Rattle.store.proofs.Sound.{TargetBelow, SoundEntry, Good, closed-small}
 
 -- A property of each element of a list.

@@ -1,111 +1,22 @@
 -- The length of a macro's written-out list by a table of the lengths below it: every entry adds its part, and the parts add up.
 use Prim.Native.Nat.{ℕ, zero, suc, _+_, _-_, _≤_, _<_, min}
-use mathlib.Core.Path.{_≡_, refl, sym, ap, _∙_, fun-ext}
-use mathlib.Core.List.{List, [], _∷_, _++_, append-assoc, append-nil}
+use mathlib.Core.Path.{_≡_, refl, sym, ap, _∙_}
+use mathlib.Core.List.{List, [], _∷_}
 use mathlib.Core.Bool.{Bool, true, false, cond, _&&_}
 use native.Mathlib.Omega.{arith}
-use lib.ListN.{length, getD, set, replicate, length-append, length-set, length-replicate, List·getD-eq-default}
+use lib.ListN.{length, getD, set, length-append, length-set, length-replicate}
 use lib.Seq.{getD-set-same, getD-set-other}
 use lib.Dec.{ltb, eqb}
-use borrow.Author.Tests.{ltb-true, ltb-false, eq-eqb, ne-eqb, eqb-true, eqb-false}
+use borrow.Author.Tests.{ltb-true, eqb-true, eqb-false}
 use Rattle.wire.specs.declared.kinds.Kind.{Kind}
 use Rattle.wire.specs.declared.kinds.Command.{Command}
 use Rattle.store.specs.declared.Store.{Store}
 use Rattle.store.specs.declared.roles.Role.{Role}
 use Rattle.store.specs.Roles.{roleOf}
 use Rattle.store.specs.Slots.{isClosed, entriesOf}
-use Rattle.store.specs.WrittenOut.{expandAs, expand, flatBelow, flat, handOver, seconds, writtenOut}
+use Rattle.store.specs.WrittenOut.{writtenOut}
 use Rattle.store.specs.LookupSteps.{cappedLength, lengthsTo, TellsBelow, runSpan, spanIn, spansIn}
-
--- The seconds of two lists one after another.
-over-append : (role : Role) (kind : Kind) (a b : List (List Kind)) → handOver role kind (a ++ b) ≡ handOver role kind a ++ b
-over-append Role.Plain kind a b = refl
-over-append (Role.Open m) kind a b = refl
-over-append Role.Close kind a b = refl
-over-append (Role.Run m) kind a b = refl
-over-append (Role.Wait n) kind a b = sym (append-assoc (replicate n []) a b)
-over-append Role.Stop kind a b = refl
-over-append Role.Clear kind a b = refl
-
-pub seconds-append : (xs ys : List Kind) → seconds (xs ++ ys) ≡ seconds xs ++ seconds ys
-unfolding seconds
-seconds-append [] ys = refl
-seconds-append (k ∷ ks) ys =
-    ap (λ l. handOver (roleOf k) k l) (seconds-append ks ys) ∙ over-append (roleOf k) k (seconds ks) (seconds ys)
-
--- The seconds of one entry; `look` gives those of a RUN's target.
-abbrev pub partAs : (ℕ → List (List Kind)) → Kind → Role → List (List Kind)
-partAs look kind Role.Plain = (kind ∷ []) ∷ []
-partAs look kind (Role.Open m) = (kind ∷ []) ∷ []
-partAs look kind Role.Close = (kind ∷ []) ∷ []
-partAs look kind (Role.Run m) = look m
-partAs look kind (Role.Wait n) = replicate n []
-partAs look kind Role.Stop = (kind ∷ []) ∷ []
-partAs look kind Role.Clear = (kind ∷ []) ∷ []
-
-part-of : (look : ℕ → List Kind) (kind : Kind) (role : Role) → roleOf kind ≡ role
-    → seconds (expandAs look kind role) ≡ partAs (λ t. seconds (look t)) kind role
-unfolding seconds
-part-of look kind Role.Plain e = rw e
-part-of look kind (Role.Open m) e = rw e
-part-of look kind Role.Close e = rw e
-part-of look kind (Role.Run m) e = refl
-part-of look kind (Role.Wait n) e = rw e (append-nil (replicate n []))
-part-of look kind Role.Stop e = rw e
-part-of look kind Role.Clear e = rw e
-
--- The seconds of several entries, one after another.
-unfoldable pub partsOf : (ℕ → List (List Kind)) → List Command → List (List Kind)
-partsOf look [] = []
-partsOf look (e ∷ es) = partAs look (e .kind) (roleOf (e .kind)) ++ partsOf look es
-
-seconds-expand : (look : ℕ → List Kind) (es : List Command) → seconds (expand look es) ≡ partsOf (λ t. seconds (look t)) es
-unfolding expand partsOf seconds
-seconds-expand look [] = refl
-seconds-expand look (e ∷ es) =
-    rw (
-      seconds-append (expandAs look (e .kind) (roleOf (e .kind))) (expand look es),
-      part-of look (e .kind) (roleOf (e .kind)) refl,
-      seconds-expand look es,
-    )
-
--- More fuel changes nothing: a macro's list is the same below every larger number, and empty below a smaller one.
-flat-past : (closed : ℕ → Bool) (entries : ℕ → List Command) (n k : ℕ) → n ≤ k → flatBelow closed entries n k ≡ []
-unfolding flatBelow
-flat-past closed entries zero k h = refl
-flat-past closed entries (suc n) k h = rw (ne-eqb k n (omega arith), flatBelow) (flat-past closed entries n k (omega arith))
-
-flat-fuel : (closed : ℕ → Bool) (entries : ℕ → List Command) (n k : ℕ) → k < n → flatBelow closed entries n k ≡ flatBelow closed entries (suc k) k
-unfolding flatBelow
-flat-fuel closed entries zero k h = absurd (omega arith)
-flat-fuel closed entries (suc n) k h = step (λ below. flat-fuel closed entries n k below) (eqb k n) refl
-  where
-    step : (k < n → flatBelow closed entries n k ≡ flatBelow closed entries (suc k) k)
-        → (t : Bool) → eqb k n ≡ t → flatBelow closed entries (suc n) k ≡ flatBelow closed entries (suc k) k
-    step rest true e = ap (λ j. flatBelow closed entries (suc j) k) (sym (eqb-true k n e))
-    step rest false e = rw (e, flatBelow) (rest (omega (arith, eqb-false k n e)))
-
--- The list of macro m: its entries, a RUN replaced where its target is closed and below.
-abbrev pub look : Store → ℕ → ℕ → List (List Kind)
-look s m t = cond (ltb t m && isClosed s t) (writtenOut s t) []
-
-look-below : (s : Store) (m t : ℕ)
-    → seconds (cond (isClosed s t) (flatBelow (isClosed s) (entriesOf s) m t) []) ≡ look s m t
-unfolding seconds writtenOut flat
-look-below s m t = go (isClosed s t) (ltb t m) refl
-  where
-    go : (closed below : Bool) → ltb t m ≡ below
-        → seconds (cond closed (flatBelow (isClosed s) (entriesOf s) m t) []) ≡ cond (below && closed) (writtenOut s t) []
-    go false false e = refl
-    go false true e = refl
-    go true false e = rw (flat-past (isClosed s) (entriesOf s) m t (ltb-false t m e))
-    go true true e = rw (flat-fuel (isClosed s) (entriesOf s) m t (ltb-true t m e))
-
-pub written-parts : (s : Store) (m : ℕ) → writtenOut s m ≡ partsOf (look s m) (entriesOf s m)
-unfolding writtenOut flat flatBelow
-written-parts s m =
-    rw (eq-eqb m m refl, flatBelow) (seconds-expand (λ t. cond (isClosed s t) (flatBelow (isClosed s) (entriesOf s) m t) []) (entriesOf s m)
-    ∙ ap (λ f. partsOf f (entriesOf s m)) (fun-ext (look-below s m)))
+use Rattle.store.proofs.Parts.{partAs, partsOf, look, parts-are}
 
 -- Sums that are told up to 601.
 cap-sum : (a b x y : ℕ) → min 601 a ≡ min 601 x → min 601 b ≡ min 601 y → min 601 (a + b) ≡ min 601 (x + y)
@@ -146,7 +57,7 @@ module _ (s : Store) (m : ℕ) (table : List ℕ) (told : TellsBelow s m table) 
       ∙ ap (λ n. min 601 n) (sym (length-append (partAs (look s m) (e .kind) (roleOf (e .kind))) (partsOf (look s m) es)))
 
   pub length-told : min 601 (spansIn (s .closed) table m (entriesOf s m)) ≡ cappedLength s m
-  length-told = spans-told (entriesOf s m) ∙ ap (λ l. min 601 (length l)) (sym (written-parts s m))
+  length-told = spans-told (entriesOf s m) ∙ ap (λ l. min 601 (length l)) (sym (parts-are s m))
 
 -- The table of the lengths below n has a place for all eight macros, and tells those below n.
 pub length-lengthsTo : (s : Store) (n : ℕ) → length (lengthsTo s n) ≡ 8
@@ -180,15 +91,6 @@ lengths-more s (suc n) m table h e nonzero told =
   where
     same : m ≡ n
     same = omega arith
-
--- A number that no macro has has no entries, and no seconds.
-entries-none : (s : Store) (m : ℕ) → length (s .counts) ≡ 8 → 8 ≤ m → entriesOf s m ≡ []
-unfolding entriesOf
-entries-none s m h past = rw (List·getD-eq-default (s .counts) 0 {n = m} (omega arith))
-
-pub written-none : (s : Store) (m : ℕ) → length (s .counts) ≡ 8 → 8 ≤ m → writtenOut s m ≡ []
-unfolding partsOf
-written-none s m h past = rw (written-parts, entries-none s m h past)
 
 -- One turn of the sum: what is summed so far and what the entries from here on span is the same before and after it.
 pub sum-turn : (closed : List Bool) (table : List ℕ) (m sum span next : ℕ) (e : Command) (es rest : List Command) (role : Role)

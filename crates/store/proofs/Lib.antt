@@ -1,11 +1,14 @@
 -- Laws of the macro store, in two groups: what a reader of this crate wants to know (what a written-out list is, that soundness is kept, what a
--- running macro hands over, that results are unique), and the laws behind single functions.
+-- running macro hands over, that results are unique),
 pub mod WrittenOut
 pub mod Sound
 pub mod Running
 pub mod Handed
 pub mod Status
 pub mod Unique
+-- and the laws behind these and behind single functions.
+pub mod Flat
+pub mod Parts
 pub mod Laws
 pub mod Walk
 pub mod Lengths

@@ -1,7 +1,7 @@
 -- A macro that runs: its list and its length, what commands leave of it, and what each second hands over.
 use Prim.Native.Nat.{ℕ, suc, _-_, _≤_, _<_}
 use mathlib.Core.Path.{_≡_, refl, sym, ap, _∙_}
-use mathlib.Core.List.{List, [], _∷_, _++_}
+use mathlib.Core.List.{List, [], _++_}
 use mathlib.Core.Bool.{Bool, true, false, cond, not, _&&_, true≢false, false≢true}
 use native.Mathlib.Omega.{arith}
 use lib.ListN.{length, getD}
@@ -18,7 +18,8 @@ use Rattle.store.specs.Slots.{countOf, isClosed, entriesOf, kept}
 use Rattle.store.specs.WrittenOut.{writtenOut}
 use Rattle.store.specs.Checks.{permitCode}
 use Rattle.store.specs.Effects.{startedOf, executedAs, appliedOf, nextEntry, afterSecond, countedDown}
-use Rattle.store.proofs.WrittenOut.{writtenAs, partOf, written-last, as-frame, written-is}
+use Rattle.store.proofs.Parts.{partAs, partsOf, look, partOf, look-frame}
+use Rattle.store.proofs.WrittenOut.{written-is, written-last}
 use Rattle.store.proofs.Sound.{Good, Extends, extends-self, Passed, none-runs, closed-small, lists-stay, runs-extends}
 use Rattle.store.proofs.Sound.{opened-extends, closed-extends, kept-extends, kept-own, appends, applied-executed, executed-passed}
 
@@ -32,7 +33,7 @@ closed-lasts s good m c =
     let h = good .sound .closed m (closed-small s (good .shaped) m c) c in
     record { least = h .lasts; most = h .ends }
 
--- An executed RUN, STOP or CLEAR.
+-- The role of a STOP.
 abbrev pub isStop : Role → Bool
 isStop Role.Plain = false
 isStop (Role.Open m) = false
@@ -42,6 +43,7 @@ isStop (Role.Wait n) = false
 isStop Role.Stop = true
 isStop Role.Clear = false
 
+-- An executed RUN, STOP or CLEAR.
 abbrev pub startsRun : Command → Bool
 startsRun c = not (c .flag) && isRun (roleOf (c .kind))
 
@@ -51,16 +53,16 @@ stopsRun c = not (c .flag) && isStop (roleOf (c .kind))
 abbrev pub clearsAll : Command → Bool
 clearsAll c = not (c .flag) && isClear (roleOf (c .kind))
 
--- A command is appended, or its role is executed.
-by-flag : (P : Store → Type 0) (s : Store) (c : Command) → (c .flag ≡ true → P (appliedOf s c)) → (c .flag ≡ false → P (executedAs s (roleOf (c .kind))))
-    → P (appliedOf s c)
+-- What holds of a store after a command, by the flag: of the append, or of its role executed.
+by-flag : (P : Store → Type 0) (s : Store) (c : Command) → (c .flag ≡ true → P (appliedOf s c))
+    → (c .flag ≡ false → P (executedAs s (roleOf (c .kind)))) → P (appliedOf s c)
 by-flag P s c append execute = go (c .flag) refl
   where
     go : (b : Bool) → c .flag ≡ b → P (appliedOf s c)
     go true e = append e
     go false e = rw (applied-executed s c e) (execute e)
 
--- A test on an executed command is one on its role.
+-- What a test of an executed command says of its role, where it fails and where it holds.
 executed-test : (c : Command) (b : Bool) → c .flag ≡ false → (not (c .flag) && b) ≡ false → b ≡ false
 executed-test c b e h = rw e at h
 
@@ -69,7 +71,22 @@ executed-now c b h =
     let p = both (not (c .flag)) b h in
     (not-true (c .flag) (p .0), p .1)
 
--- What an executed command does, role by role: to the closed macros,
+-- From s to t a run goes on: the same macro runs, with the same seconds left of the same list.
+pub record SameRun (s t : Store) : Type 0 where
+  pub running : t .running ≡ s .running
+  pub left : t .left ≡ s .left
+  pub list : writtenOut t (s .running) ≡ writtenOut s (s .running)
+
+-- From s, which is idle, to t a run begins: macro m, which is closed, runs, and all seconds of its list are left.
+pub record Started (s : Store) (m : ℕ) (t : Store) : Type 0 where
+  pub small : m < 8
+  pub closed : isClosed s m ≡ true
+  pub idle : s .running ≡ 255
+  pub running : t .running ≡ m
+  pub left : t .left ≡ length (writtenOut s m)
+  pub list : writtenOut t m ≡ writtenOut s m
+
+-- An executed command by its role. Every one that passed the rows, but CLEAR, keeps the closed macros.
 executed-extends : (s : Store) → Good s → (r : Role) → Passed s false r → isClear r ≡ false → Extends s (executedAs s r)
 executed-extends s good Role.Plain h other = extends-self s
 executed-extends s good (Role.Open m) h other = opened-extends s m (h .no13)
@@ -79,22 +96,7 @@ executed-extends s good (Role.Wait n) h other = extends-self s
 executed-extends s good Role.Stop h other = runs-extends s 255 0
 executed-extends s good Role.Clear h other = absurd (true≢false other)
 
--- The run goes on: the same macro runs, with the same seconds left of the same list.
-pub record SameRun (s t : Store) : Type 0 where
-  pub running : t .running ≡ s .running
-  pub left : t .left ≡ s .left
-  pub list : writtenOut t (s .running) ≡ writtenOut s (s .running)
-
--- A run begins: macro m, closed, runs on a store that was idle, and all of its list is left.
-pub record Started (s : Store) (m : ℕ) (t : Store) : Type 0 where
-  pub small : m < 8
-  pub closed : isClosed s m ≡ true
-  pub idle : s .running ≡ 255
-  pub running : t .running ≡ m
-  pub left : t .left ≡ length (writtenOut s m)
-  pub list : writtenOut t m ≡ writtenOut s m
-
--- Row 19 on roles: an executed RUN or CLEAR passes on an idle store only.
+-- Row 19: what passes while a macro runs is neither a RUN nor a CLEAR.
 busy-passed : (s : Store) (r : Role) → Passed s false r → (s .running ≡ 255 → ⊥) → (isRun r ≡ false) × (isClear r ≡ false)
 busy-passed s Role.Plain h busy = (refl, refl)
 busy-passed s (Role.Open m) h busy = (refl, refl)
@@ -104,7 +106,7 @@ busy-passed s (Role.Wait n) h busy = (refl, refl)
 busy-passed s Role.Stop h busy = (refl, refl)
 busy-passed s Role.Clear h busy = absurd (busy (none-runs (s .running) (h .no19)))
 
--- to the run, of which only RUN and STOP say something,
+-- Every one but RUN and STOP leaves the run.
 executed-run : (s : Store) (r : Role) → isRun r ≡ false → isStop r ≡ false
     → (executedAs s r .running ≡ s .running) × (executedAs s r .left ≡ s .left)
 executed-run s Role.Plain run stop = (refl, refl)
@@ -115,7 +117,7 @@ executed-run s (Role.Wait n) run stop = (refl, refl)
 executed-run s Role.Stop run stop = absurd (true≢false stop)
 executed-run s Role.Clear run stop = (refl, refl)
 
--- RUN of a closed macro on an idle store.
+-- RUN of a closed macro on an idle store starts it; rows 18 and 19 let no other pass.
 pub started-of : (s : Store) → Good s → (m : ℕ) → isClosed s m ≡ true → s .running ≡ 255 → Started s m (startedOf s m)
 started-of s good m c free =
     record {
@@ -127,7 +129,6 @@ started-of s good m c free =
       list = lists-stay s (startedOf s m) good (runs-extends s m (length (writtenOut s m))) m c;
     }
 
--- where it is a RUN,
 executed-starts : (s : Store) → Good s → (r : Role) → Passed s false r → isRun r ≡ true → Started s (numberOf r) (executedAs s r)
 executed-starts s good Role.Plain h run = absurd (false≢true run)
 executed-starts s good (Role.Open m) h run = absurd (false≢true run)
@@ -138,7 +139,7 @@ executed-starts s good (Role.Wait n) h run = absurd (false≢true run)
 executed-starts s good Role.Stop h run = absurd (false≢true run)
 executed-starts s good Role.Clear h run = absurd (false≢true run)
 
--- a STOP,
+-- STOP leaves the store idle,
 executed-stops : (s : Store) (r : Role) → isStop r ≡ true → executedAs s r .running ≡ 255
 executed-stops s Role.Plain stop = absurd (false≢true stop)
 executed-stops s (Role.Open m) stop = absurd (false≢true stop)
@@ -148,7 +149,7 @@ executed-stops s (Role.Wait n) stop = absurd (false≢true stop)
 executed-stops s Role.Stop stop = refl
 executed-stops s Role.Clear stop = absurd (false≢true stop)
 
--- or no RUN, on an idle store. An append leaves the run.
+-- and an idle store stays so under every one but RUN.
 executed-idle : (s : Store) (r : Role) → isRun r ≡ false → s .running ≡ 255 → executedAs s r .running ≡ 255
 executed-idle s r run free = go (isStop r) refl
   where
@@ -156,6 +157,7 @@ executed-idle s r run free = go (isStop r) refl
     go true e = executed-stops s r e
     go false e = executed-run s r run e .0 ∙ free
 
+-- An append leaves the run.
 kept-run : (s : Store) (m : ℕ) (c : Command) → (kept s m c .running ≡ s .running) × (kept s m c .left ≡ s .left)
 unfolding kept
 kept-run s m c = (refl, refl)
@@ -173,7 +175,7 @@ module _ (s : Store) (good : Good s) (c : Command) (judge : judgeCode c ≡ 0) (
   pub applied-lists : clearsAll c ≡ false → (m : ℕ) → isClosed s m ≡ true → writtenOut (appliedOf s c) m ≡ writtenOut s m
   applied-lists other m closed = lists-stay s (appliedOf s c) good (applied-extends other) m closed
 
-  -- While a macro runs, every accepted command but an executed STOP leaves the run as it was.
+  -- While a macro runs, every accepted command but an executed STOP leaves the macro and its seconds,
   stays-on : (s .running ≡ 255 → ⊥) → stopsRun c ≡ false → (appliedOf s c .running ≡ s .running) × (appliedOf s c .left ≡ s .left)
   stays-on busy other =
       by-flag (λ t. (t .running ≡ s .running) × (t .left ≡ s .left)) s c
@@ -183,6 +185,7 @@ module _ (s : Store) (good : Good s) (c : Command) (judge : judgeCode c ≡ 0) (
       role : Role
       role = roleOf (c .kind)
 
+  -- none is a CLEAR,
   clears-not : (s .running ≡ 255 → ⊥) → clearsAll c ≡ false
   clears-not busy = go (c .flag) refl
     where
@@ -190,6 +193,7 @@ module _ (s : Store) (good : Good s) (c : Command) (judge : judgeCode c ≡ 0) (
       go true e = rw e
       go false e = rw e (busy-passed s (roleOf (c .kind)) (executed-passed s c e permit) busy .1)
 
+  -- and so the run goes on.
   pub applied-runs-on : (s .running ≡ 255 → ⊥) → stopsRun c ≡ false → SameRun s (appliedOf s c)
   applied-runs-on busy other =
       let run = stays-on busy other in
@@ -203,7 +207,7 @@ module _ (s : Store) (good : Good s) (c : Command) (judge : judgeCode c ≡ 0) (
       (λ e. absurd (true≢false (sym e ∙ p .0)))
       (λ e. executed-starts s good (roleOf (c .kind)) (executed-passed s c e permit) (p .1))
 
-  -- An executed STOP leaves the store idle.
+  -- An executed STOP that is accepted leaves the store idle.
   pub applied-stops : stopsRun c ≡ true → appliedOf s c .running ≡ 255
   applied-stops stop =
       let p = executed-now c (isStop (roleOf (c .kind))) stop in
@@ -218,29 +222,29 @@ module _ (s : Store) (good : Good s) (c : Command) (judge : judgeCode c ≡ 0) (
       (λ e. let a = appends s good c e judge permit in rw (a .effect) (kept-run s (s .opened) c .0 ∙ free))
       (λ e. executed-idle s (roleOf (c .kind)) (executed-test c (isRun (roleOf (c .kind))) e other) free)
 
--- An entry more in macro m, not closed: its list is the one before, followed by the entry's part.
+-- An entry more in macro m, which is not closed and has a slot for it: its list is the one before, followed by the entry's part.
 pub kept-written : (s : Store) → Good s → (m : ℕ) (c : Command) → m < 8 → countOf s m < 24 → isClosed s m ≡ false
     → writtenOut (kept s m c) m ≡ writtenOut s m ++ partOf s m c
 unfolding kept
 kept-written s good m c small room u =
     written-last t m (entriesOf s m) c (kept-own s m c (good .shaped) small room)
-    ∙ ap (λ l. l ++ partOf t m c) (same (entriesOf s m) ∙ sym (written-is s m))
-    ∙ ap (λ l. writtenOut s m ++ l) (same (c ∷ []))
+    ∙ ap (λ f. partsOf f (entriesOf s m) ++ partAs f (c .kind) (roleOf (c .kind))) same
+    ∙ ap (λ l. l ++ partOf s m c) (sym (written-is s m))
   where
     t : Store
     t = kept s m c
 
-    same : (es : List Command) → writtenAs t m es ≡ writtenAs s m es
-    same es = sym (as-frame s t refl (λ k h. sym (kept-extends s m c room u .entries k h)) m es)
+    same : look t m ≡ look s m
+    same = sym (look-frame s t refl (λ k h. sym (kept-extends s m c room u .entries k h)) m)
 
--- An accepted append writes the open macro out as before, followed by the new entry's part.
+-- So an accepted append leaves the open macro with its list followed by the new entry's part.
 pub applied-appends : (s : Store) → Good s → (c : Command) → c .flag ≡ true → judgeCode c ≡ 0 → permitCode s c ≡ 0
     → writtenOut (appliedOf s c) (s .opened) ≡ writtenOut s (s .opened) ++ partOf s (s .opened) c
 applied-appends s good c flag judge permit =
     let a = appends s good c flag judge permit in
     ap (λ t. writtenOut t (s .opened)) (a .effect) ∙ kept-written s good (s .opened) c (a .small) (a .room) (good .marks .unclosed)
 
--- One second of a run with k + 1 seconds left hands over the entry of that second and leaves k; after the last one the store is idle.
+-- A second of a run with k + 1 of L seconds left hands over entry L - (k + 1), from 0, and leaves k; after the last one the store is idle.
 pub record Second (s : Store) (k : ℕ) : Type 0 where
   pub handed : nextEntry s ≡ getD (writtenOut s (s .running)) (length (writtenOut s (s .running)) - s .left) []
   pub left : afterSecond s .left ≡ k
@@ -272,7 +276,7 @@ second-lists s good m c = lists-stay s (afterSecond s) good (second-extends s) m
 pub second-idle : (s : Store) → s .running ≡ 255 → (nextEntry s ≡ []) × (afterSecond s ≡ s)
 second-idle s free = (rw (eq-eqb (s .running) 255 free), rw (eq-eqb (s .running) 255 free))
 
--- Macro m runs with the list w, of which k seconds are over.
+-- Macro m runs with the list w, of which k seconds are over and at least one is left.
 pub record RunOf (m : ℕ) (w : List (List Kind)) (k : ℕ) (s : Store) : Type 0 where
   pub small : m < 8
   pub running : s .running ≡ m
@@ -280,7 +284,7 @@ pub record RunOf (m : ℕ) (w : List (List Kind)) (k : ℕ) (s : Store) : Type 0
   pub left : s .left ≡ length w - k
   pub going : k < length w
 
--- An executed RUN that is accepted starts a run of 1 to 600 seconds;
+-- An executed RUN that is accepted starts a run of its macro's list, of which no second is over;
 pub run-starts : (s : Store) → Good s → (c : Command) → judgeCode c ≡ 0 → permitCode s c ≡ 0 → startsRun c ≡ true
     → RunOf (numberOf (roleOf (c .kind))) (writtenOut s (numberOf (roleOf (c .kind)))) 0 (appliedOf s c)
 run-starts s good c judge permit run =
@@ -294,7 +298,7 @@ run-starts s good c judge permit run =
       going = closed-lasts s good m (h .closed) .least;
     }
 
--- every other accepted command but an executed STOP leaves it as it was;
+-- every accepted command but an executed STOP leaves a run as it was;
 pub run-stays : (s : Store) → Good s → (m : ℕ) (w : List (List Kind)) (k : ℕ) → RunOf m w k s
     → (c : Command) → judgeCode c ≡ 0 → permitCode s c ≡ 0 → stopsRun c ≡ false → RunOf m w k (appliedOf s c)
 run-stays s good m w k run c judge permit other =
@@ -307,7 +311,7 @@ run-stays s good m w k run c judge permit other =
       going = run .going;
     }
 
--- and a second hands over entry k, and leaves the run with one second more over, or, after the last one, an idle store.
+-- and a second hands over entry k, from 0, and leaves the run with one second more over, or, after the last one, an idle store.
 pub record RunSecond (m : ℕ) (w : List (List Kind)) (k : ℕ) (s : Store) : Type 0 where
   pub handed : nextEntry s ≡ getD w k []
   pub goes-on : suc k < length w → RunOf m w (suc k) (afterSecond s)

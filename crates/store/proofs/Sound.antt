@@ -23,8 +23,9 @@ use Rattle.store.specs.Checks.{row11, row12, row13, row14, row15, row16,
 use Rattle.store.specs.Effects.{storeWith, freshSlots, freshStore, appendedOf, openedOf, closedOf, startedOf}
 use Rattle.store.specs.Effects.{stoppedOf, clearedOf, executedAs, appliedOf, countedDown, afterSecond}
 use Rattle.store.specs.Sound.{allBelow, allOf, entryHolds, entriesHold, closedHolds, openHolds, macroHolds, runningHolds, storeSound}
-use Rattle.store.proofs.WrittenOut.{Each, TargetIn, RunsIn, written-grown, writtenAs, partOf}
-use Rattle.store.proofs.WrittenOut.{written-is, written-append, part-run, part-wait, part-other}
+use Rattle.store.proofs.Flat.{Each, TargetIn, RunsIn, written-grown}
+use Rattle.store.proofs.Parts.{partOf, writtenAs, part-run, part-wait, part-other}
+use Rattle.store.proofs.WrittenOut.{written-is, written-first}
 
 -- A RUN's target is closed and below macro m; any other role has no target.
 abbrev pub TargetBelow : Store → ℕ → Role → Type 0
@@ -283,7 +284,8 @@ kept-other s m k c room other =
     rw (getD-set-other (s .counts) m k (countOf s m + 1) 0 other) (go (ltb k m) refl)
   where
     go : (b : Bool) → ltb k m ≡ b
-        → take (min 24 (countOf s k)) (drop (k * 24) (set (s .entries) (m * 24 + countOf s m) c)) ≡ take (min 24 (countOf s k)) (drop (k * 24) (s .entries))
+        → take (min 24 (countOf s k)) (drop (k * 24) (set (s .entries) (m * 24 + countOf s m) c))
+        ≡ take (min 24 (countOf s k)) (drop (k * 24) (s .entries))
     go true e =
         window-before (s .entries) c (m * 24 + countOf s m) (k * 24) (min 24 (countOf s k)) (let less : k < m = ltb-true k m e in omega arith)
     go false e =
@@ -497,7 +499,7 @@ entries-last : (s : Store) → Good s → (m : ℕ) (es : List Command) → Each
 entries-last s good m [] h some = absurd (omega arith)
 entries-last s good m (e ∷ es) h some =
     let first = part-lasts s good m e (roleOf (e .kind)) refl (judged-role e (h .0 .allowed)) (h .0 .target) in
-    omega (arith, ap length (written-append s m (e ∷ []) es), length-append (partOf s m e) (writtenAs s m es))
+    omega (arith, ap length (written-first s m e es), length-append (partOf s m e) (writtenAs s m es))
 
 pub macro-lasts : (s : Store) → Good s → (m : ℕ) → m < 8 → 1 ≤ countOf s m → Each (SoundEntry s m) (entriesOf s m)
     → 1 ≤ length (writtenOut s m)
@@ -803,7 +805,8 @@ appends s good c flag judge permit =
     let passed : Passed s true (roleOf (c .kind)) = subst (λ b. Passed s b (roleOf (c .kind))) flag (passes s c permit) in
     let small : s .opened < 8 = good .marks .opened (eqb-false (s .opened) 255 (passed .no11)) in
     let room : countOf s (s .opened) < 24 = leb-false 24 (countOf s (s .opened)) (passed .no16) in
-    let entry : SoundEntry s (s .opened) c = record { flagged = flag; allowed = judge; target = target-of s (s .opened) (roleOf (c .kind)) (passed .no17) (passed .no18) } in
+    let target : TargetBelow s (s .opened) (roleOf (c .kind)) = target-of s (s .opened) (roleOf (c .kind)) (passed .no17) (passed .no18) in
+    let entry : SoundEntry s (s .opened) c = record { flagged = flag; allowed = judge; target = target } in
     record {
       small = small;
       room = room;

@@ -39,7 +39,8 @@ code-told e r told = sym (ap (λ t. t .code) told)
 pub passes-allowed : (e : Command) (r : Judged) → toldJudged r ≡ judged e → r ≡ Judged.Allowed → true ≡ eqb (judgeCode e) 0
 passes-allowed e r told is = rw (code-told e r told, is)
 
-pub passes-refused : (e : Command) (r : Judged) (refusal : Refusal) → toldJudged r ≡ judged e → r ≡ Judged.Refused refusal → false ≡ eqb (judgeCode e) 0
+pub passes-refused : (e : Command) (r : Judged) (refusal : Refusal) → toldJudged r ≡ judged e → r ≡ Judged.Refused refusal
+    → false ≡ eqb (judgeCode e) 0
 passes-refused e r refusal told is = rw (code-told e r told, is) (sym (refusal-code refusal))
 
 -- A test of all elements, one after another.
@@ -87,8 +88,9 @@ module _ (s : Store) (m count : ℕ) (shut : Bool) (counted : count ≡ countOf 
       → fits ≡ (leb 1 count && leb count 24 && leb 1 told && leb told 600)
       → (fits && entriesHold s m) ≡ macroHolds s m
   closed-told told fits capped is tests =
-      let some : leb 1 told ≡ leb 1 (length (writtenOut s m)) = same-leb 1 told 1 (length (writtenOut s m)) (λ h. omega arith) (λ h. omega arith) in
-      let short : leb told 600 ≡ leb (length (writtenOut s m)) 600 = same-leb told 600 (length (writtenOut s m)) 600 (λ h. omega arith) (λ h. omega arith) in
+      let l = length (writtenOut s m) in
+      let some : leb 1 told ≡ leb 1 l = same-leb 1 told 1 l (λ h. omega arith) (λ h. omega arith) in
+      let short : leb told 600 ≡ leb l 600 = same-leb told 600 l 600 (λ h. omega arith) (λ h. omega arith) in
       rw (← marked, is, tests, counted, some, short)
 
   pub open-told : shut ≡ false → s .opened ≡ m → (leb count 24 && entriesHold s m) ≡ macroHolds s m

@@ -10,12 +10,9 @@ use borrow.Author.Tests.{ltb-true, ltb-false, leb-true, eqb-true, eqb-false, not
 use Rattle.store.specs.declared.Store.{Store}
 use Rattle.store.specs.Slots.{bit, marksOf, isClosed}
 use Rattle.store.proofs.Sound.{Shaped, Marks, Good}
+use Rattle.store.proofs.Laws.{bit-small}
 
--- A bit is 0 or 1, and its test gives back the mark.
-bit-small : (b : Bool) → bit b ≤ 1
-bit-small false = omega arith
-bit-small true = omega arith
-
+-- The test of a bit gives back the mark.
 bit-test : (b : Bool) → eqb (bit b) 1 ≡ b
 bit-test false = refl
 bit-test true = refl

@@ -21,13 +21,13 @@ use Rattle.store.specs.LookupSteps.{cappedLength, lengthsTo, spanIn}
 use Rattle.store.specs.Checks.{permitCode}
 use Rattle.store.specs.Effects.{openedOf, closedOf, clearedOf, executedAs, appliedOf}
 use Rattle.store.specs.TallySteps.{tallyOf, storeOf, tallyCode, hasSlot, appendedBy, executedBy, tallyAfter, entriesAfter, Tallied}
-use Rattle.store.proofs.WrittenOut.{partOf, written-is, written-none, part-run, part-wait, part-other}
+use Rattle.store.proofs.Parts.{partOf, part-run, part-wait, part-other, none-past}
+use Rattle.store.proofs.WrittenOut.{written-is, written-none}
 use Rattle.store.proofs.Sound.{TargetBelow, Shaped, Good, closed-small, Extends, list-stays, lists-stay, Passed, InRange, judged-role}
 use Rattle.store.proofs.Sound.{runningAs, opened-extends, closed-extends, kept-extends, Appends, appends, applied-executed, executed-passed}
 use Rattle.store.proofs.Running.{closed-lasts, kept-written}
 use Rattle.store.proofs.Laws.{over-capped}
 use Rattle.store.proofs.Lengths.{length-lengthsTo, lengths-tell}
-use Rattle.store.proofs.Lengths as table-laws
 
 -- A table has a place for each macro and tells the length of every one that is closed or open.
 record Tells (s : Store) (table : List ℕ) : Type 0 where
@@ -41,7 +41,7 @@ tells-of s t is = record { eight = is .eight; lengths = is .lengths }
 -- A number that no macro has is told as 0, and has no seconds.
 past-told : (s : Store) (table : List ℕ) (m : ℕ) → length (s .counts) ≡ 8 → length table ≡ 8 → 8 ≤ m → getD table m 0 ≡ cappedLength s m
 past-told s table m counts eight past =
-    rw (List·getD-eq-default table 0 {n = m} (omega arith), table-laws.written-none s m counts past)
+    rw (List·getD-eq-default table 0 {n = m} (omega arith), none-past s m counts past)
 
 -- A store's own tally is true of it.
 pub tallied-own : (s : Store) → Shaped s → Tallied s (tallyOf s)

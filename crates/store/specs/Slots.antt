@@ -1,4 +1,4 @@
--- What a store says of one macro, and where its entries are kept. Only `entriesOf` and `slotAt` know the slots; every rule speaks of a macro's entries.
+-- What a store says of a macro, and where its entries are. Only `entriesOf` and `slotAt` know the slots; every rule speaks of a macro's entries.
 use Prim.Native.Nat.{ℕ, _+_, _*_, min}
 use mathlib.Core.List.{List}
 use mathlib.Core.Bool.{Bool, true, false}

@@ -66,7 +66,8 @@ entry-in-entry-in-requires t c κs =
     let start = c .before .before .before .before in
     let args = start .args in
     let cover = c .before .before .before .cover-in in
-    let falls = found-falls (args .store) (args .m) (args .k) (args .table) (cover .result) _ (start .pre .1) (cover .ensures) (c .before .target .given .1) in
+    let is = c .before .target .given .1 in
+    let falls = found-falls (args .store) (args .m) (args .k) (args .table) (cover .result) _ (start .pre .1) (cover .ensures) is in
     (omega arith, asked-below (args .store) (args .m) (args .k) _ _ (args .table) (start .pre .1) falls)
 
 entry-in-returns : (t : ℕ) → entry-in-lts.Need-returns (
@@ -103,8 +104,9 @@ entry-in-returns-3 t c =
     let start = c .before .before .before .before .before in
     let args = start .args in
     let cover = c .before .before .before .before .cover-in in
+    let is = c .before .before .target .given .1 in
     c .entry-in .ensures
-    ∙ found-seen (args .store) (args .m) (args .k) (args .table) (cover .result) _ (start .pre .1) (cover .ensures) (c .before .before .target .given .1)
+    ∙ found-seen (args .store) (args .m) (args .k) (args .table) (cover .result) _ (start .pre .1) (cover .ensures) is
 
 pub +entry-in-spec : {M : Type 1} → statement M
 +entry-in-spec = close μ-entry-in λ t. entry-in-lts.spec (

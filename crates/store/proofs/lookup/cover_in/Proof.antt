@@ -48,11 +48,13 @@ element-copy-out-entry c = search needs
 read : (c : tie.After-slot-of Inv-loop μ-loop)
     → let args = c .before .before .before .before .before .before .args in
     let entries = entriesOf (args .t1) (args .m) in
-    drop (c .before .before .loop .i) entries ≡ getD (args .t1 .entries) (c .slot-of .result) emptySlot ∷ drop (c .before .before .loop .i + 1) entries
+    let i = c .before .before .loop .i in
+    drop i entries ≡ getD (args .t1 .entries) (c .slot-of .result) emptySlot ∷ drop (i + 1) entries
 read c =
     let args = c .before .before .before .before .before .before .args in
     let at = c .before .before .loop in
-    walk-next (args .t1) (args .m) (c .before .before .before .filled .result) (at .i) (at .inv .walk) (c .slot-of .result) (omega arith) (c .slot-of .ensures)
+    let count = c .before .before .before .filled .result in
+    walk-next (args .t1) (args .m) count (at .i) (at .inv .walk) (c .slot-of .result) (omega arith) (c .slot-of .ensures)
 
 role-of-requires : tie.Need-role-of-requires Inv-loop μ-loop
 role-of-requires c κs = search needs

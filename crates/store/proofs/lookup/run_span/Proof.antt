@@ -11,7 +11,9 @@ length-at-requires : tie.Need-length-at-requires
 length-at-requires c κs = search needs
 
 returns : tie.Need-returns
-returns c = rw (← c .before .before .closed-at .ensures, lt-ltb _ _ (c .before .before .before .if1 .taken), c .before .if2 .taken) (c .length-at .ensures)
+returns c =
+    rw (← c .before .before .closed-at .ensures, lt-ltb _ _ (c .before .before .before .if1 .taken), c .before .if2 .taken)
+    (c .length-at .ensures)
 
 returns-2 : tie.Need-returns-2
 returns-2 c = rw (← c .before .closed-at .ensures, lt-ltb _ _ (c .before .before .if1 .taken), c .if2 .left)

@@ -11,7 +11,8 @@ closed-at-requires : tie.Need-closed-at-requires
 closed-at-requires c κs = search needs
 
 returns-2 : tie.Need-returns-2
-returns-2 c = rw (ne-eqb _ 255 (c .before .before .if1 .left), ← c .before .closed-at .ensures, not-true (c .before .closed-at .result) (c .if2 .taken))
+returns-2 c =
+    rw (ne-eqb _ 255 (c .before .before .if1 .left), ← c .before .closed-at .ensures, not-true (c .before .closed-at .result) (c .if2 .taken))
 
 returns-3 : tie.Need-returns-3
 returns-3 c =
