@@ -49,7 +49,7 @@ pub fn code_of(denial: Denial) -> u8
 }
 
 // Row 11: flag 1, or CLOSE, and no macro open.
-pub fn lacks_open(flag: bool, role: Role, opened: u8) -> bool
+pub(crate) fn lacks_open(flag: bool, role: Role, opened: u8) -> bool
     ensures { λ r. ⌜ r ≡ row11 flag role opened ⌝ }
 {
     if flag {
@@ -63,14 +63,14 @@ pub fn lacks_open(flag: bool, role: Role, opened: u8) -> bool
 }
 
 // Row 12: OPEN while one is open.
-pub fn opens_another(role: Role, opened: u8) -> bool
+pub(crate) fn opens_another(role: Role, opened: u8) -> bool
     ensures { λ r. ⌜ r ≡ row12 role opened ⌝ }
 {
     if is_open(role) { opened != NONE } else { false }
 }
 
 // Row 13: OPEN of a closed macro.
-pub fn opens_closed(role: Role, closed: [bool; 8]) -> bool
+pub(crate) fn opens_closed(role: Role, closed: [bool; 8]) -> bool
     ensures { λ r. ⌜ r ≡ row13 role closed ⌝ }
 {
     if is_open(role) {
@@ -81,14 +81,14 @@ pub fn opens_closed(role: Role, closed: [bool; 8]) -> bool
 }
 
 // Row 14: CLOSE of a macro without entries.
-pub fn closes_empty(role: Role, count: u8) -> bool
+pub(crate) fn closes_empty(role: Role, count: u8) -> bool
     ensures { λ r. ⌜ r ≡ row14 role count ⌝ }
 {
     if is_close(role) { count == 0 } else { false }
 }
 
 // Row 15: CLOSE where the written-out length exceeds LONGEST.
-pub fn closes_too_long(role: Role, length: u16) -> bool
+pub(crate) fn closes_too_long(role: Role, length: u16) -> bool
     ensures { λ r. ⌜ r ≡ row15 role length ⌝ }
 {
     if is_close(role) {
@@ -135,7 +135,7 @@ fn starts_busy(flag: bool, role: Role, running: u8) -> bool
 }
 
 // Rows 16 to 19, in their order.
-pub fn permits_entry(
+pub(crate) fn permits_entry(
     flag: bool,
     role: Role,
     count: u8,

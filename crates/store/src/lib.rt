@@ -20,8 +20,6 @@ pub use checks::Denial;
 pub use checks::Permit;
 pub use checks::code_of;
 pub use lookup::Handed;
-pub use roles::Role;
-pub use roles::role_of;
 pub use tally::Survey;
 pub use tally::Tally;
 use wire::Command;
@@ -33,11 +31,11 @@ pub const MACROS: usize = 8;
 pub const ENTRIES: usize = 24;
 
 // The number that stands for no macro.
-pub const NONE: u8 = 255;
+const NONE: u8 = 255;
 // The longest a macro runs, in seconds, and the length that every longer one is told as.
-pub const LONGEST: u16 = 600;
+const LONGEST: u16 = 600;
 
-pub const TOO_LONG: u16 = 601;
+const TOO_LONG: u16 = 601;
 
 // Macro m has `counts[m]` entries, in the slots from m * ENTRIES on.
 pub struct Store {

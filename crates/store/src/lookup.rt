@@ -26,14 +26,14 @@ pub enum Handed {
 }
 
 // What covers a second of a macro: nothing, an entry that is one second long, or a second of another macro that the entry runs.
-pub enum Covering {
+enum Covering {
     Nothing,
     Entry(Kind),
     Within(u8, u16),
 }
 
 // A sum of seconds, told up to TOO_LONG.
-pub fn added(a: u16, b: u16) -> u16
+pub(crate) fn added(a: u16, b: u16) -> u16
     ensures { λ r. ⌜ r ≡ min 601 (a + b) ⌝ }
 {
     if TOO_LONG <= a {
@@ -46,14 +46,14 @@ pub fn added(a: u16, b: u16) -> u16
 }
 
 // The seconds between two numbers; none where the second is the larger.
-pub fn less(a: u16, b: u16) -> u16
+pub(crate) fn less(a: u16, b: u16) -> u16
     ensures { λ r. ⌜ r ≡ a - b ⌝ }
 {
     if a < b { 0 } else { a - b }
 }
 
 // How many entries of macro m are in its slots.
-pub fn filled(counts: [u8; 8], m: u8) -> usize
+pub(crate) fn filled(counts: [u8; 8], m: u8) -> usize
     ensures { λ r. ⌜ r ≡ min 24 (getD counts m 0) ⌝ }
 {
     let count = count_at(counts, m) as usize;
@@ -61,7 +61,7 @@ pub fn filled(counts: [u8; 8], m: u8) -> usize
 }
 
 // What a table of lengths tells of macro m; none for a number that no macro has.
-pub fn length_at(table: [u16; 8], m: u8) -> u16
+pub(crate) fn length_at(table: [u16; 8], m: u8) -> u16
     ensures { λ r. ⌜ r ≡ getD table m 0 ⌝ }
 {
     let at = m as usize;
@@ -81,7 +81,7 @@ fn run_span(target: u8, m: u8, closed: [bool; 8], table: [u16; 8]) -> u16
 }
 
 // The seconds of an entry of macro m.
-pub fn span_in(role: Role, m: u8, closed: [bool; 8], table: [u16; 8]) -> u16
+pub(crate) fn span_in(role: Role, m: u8, closed: [bool; 8], table: [u16; 8]) -> u16
     ensures { λ r. ⌜ r ≡ spanIn closed table m role ⌝ }
 {
     match role {

@@ -4,7 +4,7 @@ ghost use Rattle.store.specs.Roles.{roleOf, isOpen, isClose, isRun, isCl
 use wire::Kind;
 
 // The nine plain kinds are one role.
-pub enum Role {
+pub(crate) enum Role {
     Plain,
     Open(u8),
     Close,
@@ -14,7 +14,7 @@ pub enum Role {
     Clear,
 }
 
-pub fn role_of(kind: Kind) -> Role
+pub(crate) fn role_of(kind: Kind) -> Role
     ensures { λ r. ⌜ r ≡ roleOf kind ⌝ }
 {
     match kind {
@@ -36,7 +36,7 @@ pub fn role_of(kind: Kind) -> Role
     }
 }
 
-pub fn is_open(role: Role) -> bool
+pub(crate) fn is_open(role: Role) -> bool
     ensures { λ r. ⌜ r ≡ isOpen role ⌝ }
 {
     if let Role::Open(_) = role {
@@ -46,26 +46,26 @@ pub fn is_open(role: Role) -> bool
     }
 }
 
-pub fn is_close(role: Role) -> bool
+pub(crate) fn is_close(role: Role) -> bool
     ensures { λ r. ⌜ r ≡ isClose role ⌝ }
 {
     if let Role::Close = role { true } else { false }
 }
 
-pub fn is_run(role: Role) -> bool
+pub(crate) fn is_run(role: Role) -> bool
     ensures { λ r. ⌜ r ≡ isRun role ⌝ }
 {
     if let Role::Run(_) = role { true } else { false }
 }
 
-pub fn is_clear(role: Role) -> bool
+pub(crate) fn is_clear(role: Role) -> bool
     ensures { λ r. ⌜ r ≡ isClear role ⌝ }
 {
     if let Role::Clear = role { true } else { false }
 }
 
 // The macro that OPEN or RUN names.
-pub fn number_of(role: Role) -> u8
+pub(crate) fn number_of(role: Role) -> u8
     ensures { λ r. ⌜ r ≡ numberOf role ⌝ }
 {
     match role {

@@ -9,14 +9,14 @@ use super::ENTRIES;
 use super::MACROS;
 
 // The entries that a macro has; none for a number that no macro has.
-pub fn count_at(counts: [u8; 8], m: u8) -> u8
+pub(crate) fn count_at(counts: [u8; 8], m: u8) -> u8
     ensures { λ r. ⌜ r ≡ getD counts m 0 ⌝ }
 {
     let at = m as usize;
     if at < MACROS { counts[at] } else { 0 }
 }
 
-pub fn closed_at(closed: [bool; 8], m: u8) -> bool
+pub(crate) fn closed_at(closed: [bool; 8], m: u8) -> bool
     ensures { λ r. ⌜ r ≡ getD closed m false ⌝ }
 {
     let at = m as usize;
@@ -24,7 +24,7 @@ pub fn closed_at(closed: [bool; 8], m: u8) -> bool
 }
 
 // Is there a slot for one more entry of macro m?
-pub fn has_slot(counts: [u8; 8], m: u8) -> bool
+pub(crate) fn has_slot(counts: [u8; 8], m: u8) -> bool
     ensures { λ r. ⌜ r ≡ hasSlot counts m ⌝ }
 {
     let at = m as usize;
@@ -36,7 +36,7 @@ pub fn has_slot(counts: [u8; 8], m: u8) -> bool
 }
 
 // The counts with another one for macro m.
-pub fn with_count(counts: [u8; 8], m: u8, count: u8) -> [u8; 8]
+pub(crate) fn with_count(counts: [u8; 8], m: u8, count: u8) -> [u8; 8]
     ensures { λ r. ⌜ r ≡ set counts m count ⌝ }
 {
     let mut next = counts;
@@ -48,7 +48,7 @@ pub fn with_count(counts: [u8; 8], m: u8, count: u8) -> [u8; 8]
 }
 
 // The lengths with another one for macro m.
-pub fn with_length(lengths: [u16; 8], m: u8, length: u16) -> [u16; 8]
+pub(crate) fn with_length(lengths: [u16; 8], m: u8, length: u16) -> [u16; 8]
     ensures { λ r. ⌜ r ≡ set lengths m length ⌝ }
 {
     let mut next = lengths;
@@ -60,7 +60,7 @@ pub fn with_length(lengths: [u16; 8], m: u8, length: u16) -> [u16; 8]
 }
 
 // The marks with macro m closed.
-pub fn marked(closed: [bool; 8], m: u8) -> [bool; 8]
+pub(crate) fn marked(closed: [bool; 8], m: u8) -> [bool; 8]
     ensures { λ r. ⌜ r ≡ set closed m true ⌝ }
 {
     let mut next = closed;
@@ -86,7 +86,7 @@ fn bit_of(on: bool) -> u8
 }
 
 // The marks as a byte, bit m for macro m.
-pub fn byte_of(closed: [bool; 8]) -> u8
+pub(crate) fn byte_of(closed: [bool; 8]) -> u8
     ensures { λ r. ⌜ r ≡ marksOf closed ⌝ }
 {
     let low = bit_of(closed[0])
