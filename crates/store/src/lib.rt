@@ -1,5 +1,5 @@
 // The macro store: what each macro holds, which is open or runs, codes 11 to 19, the written-out list of a macro and its seconds.
-// Every function is total: a store that no command sequence can reach is answered too, and nothing runs on.
+// Every public function is total: a store that no command sequence can reach is answered too, and nothing runs on.
 ghost use mathlib.Core.Path.{_≡_};
 ghost use mathlib.Core.Bool.{cond};
 ghost use lib.Dec.{eqb};
@@ -20,6 +20,7 @@ pub use checks::Denial;
 pub use checks::Permit;
 pub use checks::code_of;
 pub use lookup::Handed;
+pub use roles::Role;
 pub use tally::Survey;
 pub use tally::Tally;
 use wire::Command;

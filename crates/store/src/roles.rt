@@ -4,7 +4,7 @@ ghost use Rattle.store.specs.Roles.{roleOf, isOpen, isClose, isRun, isCl
 use wire::Kind;
 
 // The nine plain kinds are one role.
-pub(crate) enum Role {
+pub enum Role {
     Plain,
     Open(u8),
     Close,
