@@ -1,6 +1,6 @@
 -- What a written-out list is, in 01's words. `writtenAs s m es` is what the entries es are written out as in macro m of store s, `partOf s m e` what
--- one entry is: the theorems below say all of both, each under its sentence. The laws behind them are in Parts.antt and Flat.antt; that the lists of
--- closed macros stay fixed is `lists-stay`, Sound.antt.
+-- one entry is: the theorems below say all of both for a sound store, each under its sentence. The laws behind them are in Parts.antt and Flat.antt;
+-- that the lists of closed macros stay fixed is `lists-stay`, Sound.antt.
 use Prim.Native.Nat.{ℕ, _<_}
 use mathlib.Core.Path.{_≡_, refl, ap, _∙_}
 use mathlib.Core.List.{List, [], _∷_, _++_, append-nil}
@@ -18,7 +18,7 @@ use Rattle.store.proofs.Parts.{partsOf, look, partOf, writtenAs, OneSec
 pub written-is : (s : Store) (m : ℕ) → writtenOut s m ≡ writtenAs s m (entriesOf s m)
 written-is s m = parts-are s m
 
--- where none are nothing,
+-- where no entries are no seconds,
 pub written-none : (s : Store) (m : ℕ) → writtenAs s m [] ≡ []
 unfolding partsOf
 written-none s m = refl
@@ -47,6 +47,6 @@ written-run s m k e kind below closed = part-run s m k e (ap roleOf kind) below 
 pub written-wait : (s : Store) (m n : ℕ) (e : Command) → e .kind ≡ Kind.Wait n → partOf s m e ≡ replicate n []
 written-wait s m n e kind = part-wait s m n e (ap roleOf kind)
 
--- Every kind but these two is handed over as it is, in one second.
+-- Every kind but these two (`OneSecond`) is handed over as it is, in one second.
 pub written-plain : (s : Store) (m : ℕ) (e : Command) → OneSecond (roleOf (e .kind)) → partOf s m e ≡ (e .kind ∷ []) ∷ []
 written-plain s m e one = part-other s m e (roleOf (e .kind)) refl one
