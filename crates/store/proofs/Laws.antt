@@ -2,7 +2,7 @@
 use Prim.Native.Nat.{ℕ, _≤_, _<_, min}
 use mathlib.Core.Path.{_≡_, refl, sym, _∙_}
 use mathlib.Core.List.{List, [], _∷_}
-use mathlib.Core.Bool.{Bool, true, false, not}
+use mathlib.Core.Bool.{Bool, true, false, cond, not, _&&_, true≢false}
 use native.Mathlib.Omega.{arith}
 use lib.ListN.{length, getD, set, List·getD-eq-default}
 use lib.Seq.{set-out}
@@ -11,10 +11,13 @@ use denote.Enum.Declared.{tagOf}
 use types.Run.{OneOf, miss}
 use borrow.Author.Tests.{lt-ltb, le-ltb, ltb-true, ltb-false, leb-true, leb-false, not-true}
 use Rattle.words.proofs.Tests.{both}
+use Rattle.wire.specs.declared.kinds.Command.{Command}
 use Rattle.store.specs.declared.roles.Role.{Role}
-use Rattle.store.specs.Roles.{isOpen, isClose, isRun, isClear}
-use Rattle.store.specs.Slots.{bit}
-use Rattle.store.specs.TallySteps.{hasSlot}
+use Rattle.store.specs.declared.tally.Tally.{Tally}
+use Rattle.store.specs.declared.tally.Slot.{Slot}
+use Rattle.store.specs.Roles.{isPlain, isOpen, isClose, isRun, isClear}
+use Rattle.store.specs.Slots.{bit, slotAt}
+use Rattle.store.specs.TallySteps.{passesBy, openCount, hasSlot, slotFor}
 use Rattle.store.proofs.roles.Role.{the-type}
 
 -- Past the end of a list nothing is read, and nothing is written.
@@ -52,7 +55,22 @@ slot-free counts m free is holds =
     let tests = both (ltb m 8) (not full) (sym is ∙ holds) in
     (ltb-true m 8 (tests .0), leb-false 24 (getD counts m 0) (not-true full (tests .1)))
 
+-- So a command's slot is one of the 192.
+pub slot-within : (t : Tally) (c : Command) (i : ℕ) → Slot.At i ≡ slotFor t c → i < 192
+slot-within t c i e = go (c .flag && hasSlot (t .counts) (t .opened)) refl e
+  where
+    go : (free : Bool) → free ≡ (c .flag && hasSlot (t .counts) (t .opened))
+        → Slot.At i ≡ cond free (Slot.At (slotAt (t .opened) (openCount t))) Slot.Nowhere → i < 192
+    go true is at =
+        let tests = both (c .flag) (hasSlot (t .counts) (t .opened)) (sym is) in
+        let place : i ≡ slotAt (t .opened) (openCount t) = cc in
+        omega (arith, slot-free (t .counts) (t .opened) (hasSlot (t .counts) (t .opened)) refl (tests .1))
+    go false is at = absurd (let z : _≡_ {A = ℕ} 0 1 = cc in omega arith)
+
 -- The tags of the roles that a test of roles does not pass, and that a role with such a tag does not.
+abbrev unplain : List ℕ
+unplain = 1 ∷ 2 ∷ 3 ∷ 4 ∷ 5 ∷ 6 ∷ []
+
 abbrev unopen : List ℕ
 unopen = 0 ∷ 2 ∷ 3 ∷ 4 ∷ 5 ∷ 6 ∷ []
 
@@ -69,16 +87,28 @@ abbrev Fails : (Role → Bool) → List ℕ → Role → Type 0
 Fails test tags role = OneOf tags (tagOf the-type role) → false ≡ test role
 
 pub record OtherRole (role : Role) : Type 0 where
+  pub plain : Fails isPlain unplain role
   pub opens : Fails isOpen unopen role
   pub closes : Fails isClose unclose role
   pub runs : Fails isRun unrun role
   pub clears : Fails isClear unclear role
 
 pub other-role : (role : Role) → OtherRole role
-other-role Role.Plain = record { opens = λ h. refl; closes = λ h. refl; runs = λ h. refl; clears = λ h. refl }
-other-role (Role.Open m) = record { opens = λ h. absurd (miss unopen 1 tt h); closes = λ h. refl; runs = λ h. refl; clears = λ h. refl }
-other-role Role.Close = record { opens = λ h. refl; closes = λ h. absurd (miss unclose 2 tt h); runs = λ h. refl; clears = λ h. refl }
-other-role (Role.Run m) = record { opens = λ h. refl; closes = λ h. refl; runs = λ h. absurd (miss unrun 3 tt h); clears = λ h. refl }
-other-role (Role.Wait n) = record { opens = λ h. refl; closes = λ h. refl; runs = λ h. refl; clears = λ h. refl }
-other-role Role.Stop = record { opens = λ h. refl; closes = λ h. refl; runs = λ h. refl; clears = λ h. refl }
-other-role Role.Clear = record { opens = λ h. refl; closes = λ h. refl; runs = λ h. refl; clears = λ h. absurd (miss unclear 6 tt h) }
+other-role Role.Plain = record { plain = λ h. absurd (miss unplain 0 tt h); opens = λ h. refl; closes = λ h. refl; runs = λ h. refl; clears = λ h. refl }
+other-role (Role.Open m) = record { plain = λ h. refl; opens = λ h. absurd (miss unopen 1 tt h); closes = λ h. refl; runs = λ h. refl; clears = λ h. refl }
+other-role Role.Close = record { plain = λ h. refl; opens = λ h. refl; closes = λ h. absurd (miss unclose 2 tt h); runs = λ h. refl; clears = λ h. refl }
+other-role (Role.Run m) = record { plain = λ h. refl; opens = λ h. refl; closes = λ h. refl; runs = λ h. absurd (miss unrun 3 tt h); clears = λ h. refl }
+other-role (Role.Wait n) = record { plain = λ h. refl; opens = λ h. refl; closes = λ h. refl; runs = λ h. refl; clears = λ h. refl }
+other-role Role.Stop = record { plain = λ h. refl; opens = λ h. refl; closes = λ h. refl; runs = λ h. refl; clears = λ h. refl }
+other-role Role.Clear = record { plain = λ h. refl; opens = λ h. refl; closes = λ h. refl; runs = λ h. refl; clears = λ h. absurd (miss unclear 6 tt h) }
+
+-- A command that passes the store by is an executed one, and plain.
+pub passed-by : (flag : Bool) (role : Role) → passesBy flag role ≡ true → (flag ≡ false) × (role ≡ Role.Plain)
+passed-by false Role.Plain e = (refl, refl)
+passed-by false (Role.Open m) e = absurd (true≢false (sym e))
+passed-by false Role.Close e = absurd (true≢false (sym e))
+passed-by false (Role.Run m) e = absurd (true≢false (sym e))
+passed-by false (Role.Wait n) e = absurd (true≢false (sym e))
+passed-by false Role.Stop e = absurd (true≢false (sym e))
+passed-by false Role.Clear e = absurd (true≢false (sym e))
+passed-by true role e = absurd (true≢false (sym e))

@@ -21,6 +21,15 @@ roleOf (Kind.Wait seconds) = Role.Wait seconds
 roleOf Kind.Stop = Role.Stop
 roleOf Kind.Clear = Role.Clear
 
+abbrev pub isPlain : Role → Bool
+isPlain Role.Plain = true
+isPlain (Role.Open m) = false
+isPlain Role.Close = false
+isPlain (Role.Run m) = false
+isPlain (Role.Wait n) = false
+isPlain Role.Stop = false
+isPlain Role.Clear = false
+
 abbrev pub isOpen : Role → Bool
 isOpen Role.Plain = false
 isOpen (Role.Open m) = true

@@ -13,8 +13,9 @@ use Rattle.wire.specs.Codes.{Check, _when_, firstOf}
 use Rattle.store.specs.declared.Store.{Store}
 use Rattle.store.specs.declared.roles.Role.{Role}
 use Rattle.store.specs.declared.tally.Tally.{Tally}
+use Rattle.store.specs.declared.tally.Slot.{Slot}
 use Rattle.store.specs.declared.tally.Survey.{Survey}
-use Rattle.store.specs.Roles.{roleOf}
+use Rattle.store.specs.Roles.{roleOf, isPlain}
 use Rattle.store.specs.Slots.{isClosed, slotAt}
 use Rattle.store.specs.LookupSteps.{cappedLength, lengthsTo, spanIn}
 use Rattle.store.specs.Checks.{row16, row17, row18, row19, rowsFor}
@@ -43,6 +44,10 @@ openCount t = getD (t .counts) (t .opened) 0
 abbrev pub openLength : Tally → ℕ
 openLength t = getD (t .lengths) (t .opened) 0
 
+-- A plain command that is executed: the store neither refuses nor keeps it.
+abbrev pub passesBy : Bool → Role → Bool
+passesBy flag role = not flag && isPlain role
+
 -- Rows 11 to 19, by a tally.
 abbrev pub tallyChecks : Tally → Command → List Check
 tallyChecks t c = rowsFor (c .flag) (roleOf (c .kind)) (t .opened) (t .closed) (openCount t) (openLength t) (t .running)
@@ -59,9 +64,14 @@ entryChecks flag role count closed opened running =
 abbrev pub hasSlot : List ℕ → ℕ → Bool
 hasSlot counts m = ltb m 8 && not (leb 24 (getD counts m 0))
 
--- The slot of the open macro's next entry; 0 where it has none, and then no append is accepted.
-abbrev pub nextSlot : Tally → ℕ
-nextSlot t = cond (hasSlot (t .counts) (t .opened)) (slotAt (t .opened) (openCount t)) 0
+-- The slot for a command: the open macro's next one for an appended command. Where it has none, no append is accepted.
+abbrev pub slotFor : Tally → Command → Slot
+slotFor t c = cond (c .flag && hasSlot (t .counts) (t .opened)) (Slot.At (slotAt (t .opened) (openCount t))) Slot.Nowhere
+
+-- The entries with a command in its slot.
+abbrev pub putInto : List Command → Slot → Command → List Command
+putInto entries (Slot.At i) c = set entries i c
+putInto entries Slot.Nowhere c = entries
 
 -- One entry more of the open macro, which is longer by that entry's seconds.
 abbrev pub appendedBy : Tally → Role → Tally
@@ -91,7 +101,7 @@ unfoldable pub tallyAfter : Tally → Command → Tally
 tallyAfter t c = cond (c .flag) (appendedBy t (roleOf (c .kind))) (executedBy t (roleOf (c .kind)))
 
 abbrev pub entriesAfter : List Command → Tally → Command → List Command
-entriesAfter entries t c = cond (c .flag) (set entries (nextSlot t) c) entries
+entriesAfter entries t c = putInto entries (slotFor t c) c
 
 -- A tally that is true of a store: its numbers and marks, and the length of each macro that is closed or open.
 pub record Tallied (s : Store) (t : Tally) : Type 0 where

@@ -21,6 +21,7 @@ pub use checks::Permit;
 pub use checks::code_of;
 pub use lookup::Handed;
 pub use roles::Role;
+pub use tally::Slot;
 pub use tally::Survey;
 pub use tally::Tally;
 use wire::Command;

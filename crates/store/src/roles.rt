@@ -1,6 +1,6 @@
 // What a kind means to the macro store.
 ghost use mathlib.Core.Path.{_≡_};
-ghost use Rattle.store.specs.Roles.{roleOf, isOpen, isClose, isRun, isClear, numberOf};
+ghost use Rattle.store.specs.Roles.{roleOf, isPlain, isOpen, isClose, isRun, isClear, numberOf};
 use wire::Kind;
 
 // The nine plain kinds are one role.
@@ -34,6 +34,12 @@ pub(crate) fn role_of(kind: Kind) -> Role
         Kind::Stop => Role::Stop,
         Kind::Clear => Role::Clear,
     }
+}
+
+pub(crate) fn is_plain(role: Role) -> bool
+    ensures { λ r. ⌜ r ≡ isPlain role ⌝ }
+{
+    if let Role::Plain = role { true } else { false }
 }
 
 pub(crate) fn is_open(role: Role) -> bool

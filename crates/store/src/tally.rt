@@ -1,9 +1,8 @@
 // A tally: the store without its entries, and how long each macro is. It is all that codes 11 to 19 ask, so a run of lists judges and carries out its
 // commands by a tally, and copies no slots.
-ghost use Prim.Native.Nat.{_<_};
 ghost use mathlib.Core.Path.{_≡_};
 ghost use Rattle.store.specs.Checks.{toldPermit};
-ghost use Rattle.store.specs.TallySteps.{tallyCode, nextSlot, appendedBy, executedBy, tallyAfter};
+ghost use Rattle.store.specs.TallySteps.{passesBy, tallyCode, slotFor, appendedBy, executedBy, tallyAfter};
 use super::NONE;
 use super::checks;
 use super::checks::Denial;
@@ -12,6 +11,7 @@ use super::lookup::added;
 use super::lookup::length_at;
 use super::lookup::span_in;
 use super::roles::Role;
+use super::roles::is_plain;
 use super::roles::role_of;
 use super::slots;
 use wire::Command;
@@ -25,10 +25,23 @@ pub struct Tally {
     pub left: u16,
 }
 
+// Where an accepted command is kept: an appended one in a slot, any other nowhere.
+pub enum Slot {
+    At(usize),
+    Nowhere,
+}
+
 // What a survey of a store finds: whether it is sound, and its tally.
 pub struct Survey {
     pub sound: bool,
     pub tally: Tally,
+}
+
+// A plain command that is executed: the store neither refuses nor keeps it.
+fn passes_by(flag: bool, role: Role) -> bool
+    ensures { λ r. ⌜ r ≡ passesBy flag role ⌝ }
+{
+    if flag { false } else { is_plain(role) }
 }
 
 impl Tally {
@@ -39,6 +52,9 @@ impl Tally {
         let flag = command.flag;
         let kind = command.kind;
         let role = role_of(kind);
+        if passes_by(flag, role) {
+            return Permit::Granted;
+        }
         let counts = self.counts;
         let closed = self.closed;
         let lengths = self.lengths;
@@ -62,16 +78,20 @@ impl Tally {
         checks::permits_entry(flag, role, count, closed, opened, self.running)
     }
 
-    // The slot of the open macro's next entry; 0 where there is none.
-    pub fn slot(self) -> usize
-        ensures { λ r. ⌜ (r ≡ nextSlot self) × (r < 192) ⌝ }
+    // The slot for a command: the open macro's next one for an appended command, where it has one.
+    pub fn slot_for(self, command: Command) -> Slot
+        ensures { λ r. ⌜ r ≡ slotFor self command ⌝ }
     {
+        if !command.flag {
+            return Slot::Nowhere;
+        }
         let counts = self.counts;
         let opened = self.opened;
         if slots::has_slot(counts, opened) {
-            slots::slot_of(opened as usize, slots::count_at(counts, opened) as usize)
+            let count = slots::count_at(counts, opened);
+            Slot::At(slots::slot_of(opened as usize, count as usize))
         } else {
-            0
+            Slot::Nowhere
         }
     }
 
@@ -161,12 +181,16 @@ impl Tally {
     }
 
     // The tally after an accepted command.
-    pub fn after(self, command: Command) -> Tally
+    pub fn applied(self, command: Command) -> Tally
         ensures { λ r. ⌜ r ≡ tallyAfter self command ⌝ }
     {
+        let flag = command.flag;
         let kind = command.kind;
         let role = role_of(kind);
-        if command.flag {
+        if passes_by(flag, role) {
+            return self;
+        }
+        if flag {
             self.appended(role)
         } else {
             self.executed(role)
