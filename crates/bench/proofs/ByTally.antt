@@ -1,35 +1,26 @@
--- On a sound bench, what the tally of its macros orders is what carrying out says; and the tally stays true of the bench.
+-- On a sound bench, what is decided by the tally of its macros is what carrying out says; and the tally stays true of the bench.
 use Prim.Native.Nat.{ℕ}
 use mathlib.Core.Path.{_≡_, refl, sym, ap, _∙_, subst}
-use mathlib.Core.List.{List, _++_}
+use mathlib.Core.List.{List, [], _++_}
 use mathlib.Core.Bool.{Bool, true, false, cond}
-use lib.ListN.{set}
 use lib.Dec.{eqb}
 use borrow.Author.Tests.{eqb-true}
 use Rattle.wire.specs.declared.kinds.Command.{Command}
 use Rattle.wire.specs.declared.judging.Told.{Told}
 use Rattle.wire.specs.Codes.{Check, firstOf}
 use Rattle.wire.specs.Judge.{argChecks, toldWith, firstBadIn, parOf}
-use Rattle.wire.specs.Read.{readChecks}
+use Rattle.wire.specs.Read.{Answer, answerFor, readChecks}
 use Rattle.wire.proofs.FirstOf.{Coded, first-append}
 use Rattle.store.specs.declared.Store.{Store}
 use Rattle.store.specs.declared.tally.Tally.{Tally}
 use Rattle.store.specs.Checks.{permitCode, storeChecks}
-use Rattle.store.specs.TallySteps.{tallyChecks, tallyCode, nextSlot, tallyAfter, entriesAfter, Tallied}
+use Rattle.store.specs.TallySteps.{tallyChecks, tallyCode, tallyAfter, Tallied}
 use Rattle.store.proofs.Tallies.{tallied-code, tallied-effect, tallied-after}
 use Rattle.bench.specs.declared.Bench.{Bench}
 use Rattle.bench.specs.Carry.{cameraAfter, commandChecks, outcomeFor, carryOut, said, bytesChecks, taken, carryOutBytes}
-use Rattle.bench.specs.Steps.{inert, orderFor, orderBy, orderIn, effectBy, carriedBy}
+use Rattle.bench.specs.Steps.{decidedBy, decidedIn, tallyBy, carriedBy}
 use Rattle.bench.proofs.Outcomes.{judge-coded, read-coded, judge-then, carry-code, sound-bytes}
 use Rattle.bench.proofs.Sound.{GoodBench, Accepted, good-store, judge-accepted, read-accepted}
-
--- The entries after a command, as it is appended or not.
-module _ (entries : List Command) (t : Tally) (c : Command) where
-  pub entries-set : (slot : ℕ) → slot ≡ nextSlot t → c .flag ≡ true → set entries slot c ≡ entriesAfter entries t c
-  entries-set slot e flag = ap (λ n. set entries n c) e ∙ sym (ap (λ flag. cond flag (set entries (nextSlot t) c) entries) flag)
-
-  pub entries-kept : c .flag ≡ false → entries ≡ entriesAfter entries t c
-  entries-kept flag = sym (ap (λ flag. cond flag (set entries (nextSlot t) c) entries) flag)
 
 module _ (b : Bench) (t : Tally) (good : GoodBench b) (is : Tallied (b .store) t) where
   -- The rows of the tally behind others tell the code that the store's rows tell there.
@@ -40,60 +31,54 @@ module _ (b : Bench) (t : Tally) (good : GoodBench b) (is : Tallied (b .store) t
       ∙ ap (λ n. cond (eqb (firstOf rows) 0) n (firstOf rows)) (tallied-code (b .store) t is c)
       ∙ sym (first-append rows (storeChecks (b .store) c) coded)
 
-  -- What stands for a refused command changes nothing.
-  inert-stays : effectBy b t inert ≡ b
-  unfolding tallyAfter
-  inert-stays = ap (λ (s : Store). record { camera = b .camera; store = s }) (is .same)
-
-  -- Where code 0 says that a command is accepted, the order with a code leads to the outcome with that code,
+  -- Where code 0 says that a command is accepted, the answer with a code leads to the outcome with that code,
   module _ (c : Command) (code : ℕ) (accepted : code ≡ 0 → Accepted b c) where
-    carried-for : carriedBy b t (orderFor code c) ≡ outcomeFor code b c
+    carried-for : carriedBy b t (answerFor code c) ≡ outcomeFor code b c
     carried-for = go (eqb code 0) refl
       where
         told : Told
         told = toldWith code (parOf code (firstBadIn c))
 
-        go : (none : Bool) → eqb code 0 ≡ none → carriedBy b t (orderFor code c) ≡ outcomeFor code b c
+        go : (none : Bool) → eqb code 0 ≡ none → carriedBy b t (answerFor code c) ≡ outcomeFor code b c
         go true e =
             let passed = accepted (eqb-true code 0 e) in
             rw e
             (ap (λ (s : Store). record { told = told; bench = record { camera = cameraAfter (b .camera) c; store = s } })
             (tallied-effect (b .store) t (good-store b good) is c (passed .judge) (passed .permit)))
-        go false e = rw e (ap (λ (b : Bench). record { told = told; bench = b }) inert-stays)
+        go false e = rw e
 
     -- and the tally is true of what that leaves.
-    tallied-for : Tallied (outcomeFor code b c .bench .store) (tallyAfter t (orderFor code c .effect))
-    unfolding tallyAfter
+    tallied-for : Tallied (outcomeFor code b c .bench .store) (tallyBy t (answerFor code c .taken))
     tallied-for = go (eqb code 0) refl
       where
-        go : (none : Bool) → eqb code 0 ≡ none → Tallied (outcomeFor code b c .bench .store) (tallyAfter t (orderFor code c .effect))
+        go : (none : Bool) → eqb code 0 ≡ none → Tallied (outcomeFor code b c .bench .store) (tallyBy t (answerFor code c .taken))
         go true e =
             let passed = accepted (eqb-true code 0 e) in
             rw e (tallied-after (b .store) t (good-store b good) is c (passed .judge) (passed .permit))
         go false e = rw e is
 
   -- A decoded command,
-  pub carried-by : (c : Command) → carriedBy b t (orderBy t c) ≡ carryOut b c
-  unfolding orderBy carryOut
+  pub carried-by : (c : Command) → carriedBy b t (decidedBy t c) ≡ carryOut b c
+  unfolding decidedBy carryOut
   carried-by c =
-      ap (λ n. carriedBy b t (orderFor n c)) (same-code c (argChecks c) (judge-coded c))
+      ap (λ n. carriedBy b t (answerFor n c)) (same-code c (argChecks c) (judge-coded c))
       ∙ carried-for c (firstOf (commandChecks b c)) (judge-accepted b c)
       ∙ ap (λ n. outcomeFor n b c) (judge-then b c ∙ sym (carry-code b c (good .sound)))
 
   -- the command at the front of some bytes,
-  pub taken-by : (s : List ℕ) → carriedBy b t (orderIn t s) ≡ taken b s
-  unfolding orderIn taken
+  pub taken-by : (s : List ℕ) → carriedBy b t (decidedIn t s) ≡ taken b s
+  unfolding decidedIn taken
   taken-by s =
-      ap (λ n. carriedBy b t (orderFor n (said s))) (same-code (said s) (readChecks s) (read-coded s))
+      ap (λ n. carriedBy b t (answerFor n (said s))) (same-code (said s) (readChecks s) (read-coded s))
       ∙ carried-for (said s) (firstOf (bytesChecks b s)) (read-accepted b s)
 
-  pub carried-bytes-by : (s : List ℕ) → carriedBy b t (orderIn t s) ≡ carryOutBytes b s
+  pub carried-bytes-by : (s : List ℕ) → carriedBy b t (decidedIn t s) ≡ carryOutBytes b s
   carried-bytes-by s = taken-by s ∙ sound-bytes b s (good .sound)
 
   -- after which the tally is true of the bench again.
-  pub taken-tallied : (s : List ℕ) → Tallied (taken b s .bench .store) (tallyAfter t (orderIn t s .effect))
-  unfolding orderIn taken
+  pub taken-tallied : (s : List ℕ) → Tallied (taken b s .bench .store) (tallyBy t (decidedIn t s .taken))
+  unfolding decidedIn taken
   taken-tallied s =
-      subst (λ n. Tallied (taken b s .bench .store) (tallyAfter t (orderFor n (said s) .effect)))
+      subst (λ n. Tallied (taken b s .bench .store) (tallyBy t (answerFor n (said s) .taken)))
       (sym (same-code (said s) (readChecks s) (read-coded s)))
       (tallied-for (said s) (firstOf (bytesChecks b s)) (read-accepted b s))

@@ -18,8 +18,8 @@ use Rattle.store.specs.TallySteps.{surveyOf}
 use Rattle.store.specs.SecondSteps.{Stepped, stepOf, steppedOf}
 use Rattle.bench.specs.declared.Bench.{Bench}
 use Rattle.bench.specs.Status.{statusOf, rulesHold, benchSound, statusAt}
-use Rattle.bench.specs.Steps.{surveyed}
-use Rattle.bench.specs.Second.{stayedAt, executedAll, secondAt}
+use Rattle.bench.specs.Second.{executedAll, secondAt}
+use Rattle.bench.specs.Steps.{surveyed, stayedAt}
 
 module _ (b : Bench) where
   -- The rules outside the store do not hold where one of their tests fails; where those before it pass, the last decides.

@@ -13,7 +13,7 @@ pub mod ByTally
 pub mod MacroRun
 pub mod Outcomes
 pub mod Own
-mod Ordering
+mod Decisions
 mod Shapes
 mod Judging
 mod Listing

@@ -11,7 +11,7 @@ use Rattle.words.specs.BigEndian.{written}
 use Rattle.words.proofs.Laws.{with-room, part-written}
 use Rattle.wire.specs.declared.kinds.Command.{Command}
 use Rattle.wire.specs.declared.judging.Told.{Told}
-use Rattle.wire.specs.Read.{spanOf}
+use Rattle.wire.specs.Read.{Answer, spanOf}
 use Rattle.walk.specs.Walk.{rests}
 use Rattle.walk.proofs.Rests.{rests-none, rests-more}
 use Rattle.walk.proofs.Turns.{from-place, CommandAt, command-at}
@@ -21,9 +21,10 @@ use Rattle.store.specs.declared.Store.{Store}
 use Rattle.store.specs.declared.tally.Tally.{Tally}
 use Rattle.store.specs.TallySteps.{storeOf, tallyAfter, entriesAfter, Tallied}
 use Rattle.bench.specs.declared.Bench.{Bench}
-use Rattle.bench.specs.declared.orders.Order.{Order}
-use Rattle.bench.specs.Carry.{Outcome, verdictOf, cameraAfter, taken}
-use Rattle.bench.specs.Steps.{Ordered, orderOf, orderIn, carriedBy}
+use Rattle.bench.specs.declared.Verdict.{Verdict}
+use Rattle.bench.specs.declared.deciding.Decision.{Decision}
+use Rattle.bench.specs.Carry.{Outcome, cameraAfter, taken}
+use Rattle.bench.specs.Steps.{decisionOf, decidedIn, benchBy, tallyBy, carriedBy}
 use Rattle.bench.specs.Run.{Listed, runRests, runList}
 use Rattle.bench.proofs.Sound.{GoodBench, taken-good}
 use Rattle.bench.proofs.ByTally.{taken-by, taken-tallied}
@@ -90,97 +91,112 @@ pub more-rests : (list : List ℕ) (at : ℕ) → at < length list → 0 < lengt
 more-rests list at more = rw (rests-more (drop at list) (omega (arith, length-drop at list))) (omega arith)
 
 module _ {b₀ : Bench} {sender : ℕ} {list room₀ room : List ℕ} {b : Bench} {t : Tally} {at n : ℕ} (behind : Behind b₀ sender list room₀ room b t at n) where
-  -- A turn: what the tally orders for the command at the place takes effect, its record is put behind the others, and the next place lies behind it.
+  -- A turn: what was decided of the command at the place is carried out, its record is put behind the others, and the next place lies behind it.
   module _ (fits : length (rests list) * 8 ≤ length room₀) (more : at < length list)
-      (order : Order) {camera : Camera} {entries : List Command} {tally : Tally} {told : Told} {part : List ℕ} {span : ℕ}
-      (orders : orderOf order ≡ orderIn t (ahead list at))
-      (camera-is : camera ≡ cameraAfter (b .camera) (order .effect))
-      (entries-is : entries ≡ entriesAfter (b .store .entries) t (order .effect))
-      (tally-is : tally ≡ tallyAfter t (order .effect))
-      (tells : told ≡ verdictOf (order .verdict))
+      (decision : Decision) {told : Told} {part : List ℕ} {span : ℕ}
+      (decided : decisionOf decision ≡ decidedIn t (ahead list at))
+      (tells : told ≡ decisionOf decision .told)
       (put : part ≡ written (recordBytes sender (told .code) (told .par) (n + 1)) (take (length room - n * 8) (drop (n * 8) room)))
       (spans : span ≡ spanOf (ahead list at)) where
-    abbrev outcome : Outcome
-    outcome = record { told = told; bench = benchOf camera entries tally }
+    module _ {after : Bench} {tally : Tally}
+        (bench-is : after ≡ benchBy b t (decisionOf decision .taken))
+        (tally-is : tally ≡ tallyBy t (decisionOf decision .taken)) where
+      abbrev outcome : Outcome
+      outcome = record { told = told; bench = after }
 
-    -- This is what becomes of the command by the store's own rows; it leaves a sound bench, and the tally true of it.
-    took : outcome ≡ taken b (ahead list at)
-    took =
-        rw (tells, camera-is, entries-is, tally-is)
-        (ap (λ (o : Ordered). carriedBy b t o) orders ∙ taken-by b t (behind .good) (behind .tallied) (ahead list at))
+      -- This is what becomes of the command by the store's own rows; it leaves a sound bench, and the tally true of it.
+      took : outcome ≡ taken b (ahead list at)
+      took =
+          rw (tells, bench-is)
+          (ap (λ (a : Answer). carriedBy b t a) decided ∙ taken-by b t (behind .good) (behind .tallied) (ahead list at))
 
-    good-after : GoodBench (outcome .bench)
-    good-after = subst (λ (o : Outcome). GoodBench (o .bench)) (sym took) (taken-good b (behind .good) (ahead list at))
+      good-after : GoodBench (outcome .bench)
+      good-after = subst (λ (o : Outcome). GoodBench (o .bench)) (sym took) (taken-good b (behind .good) (ahead list at))
 
-    tallied-after : Tallied (outcome .bench .store) tally
-    tallied-after =
-        let is : tally ≡ tallyAfter t (orderIn t (ahead list at) .effect) = tally-is ∙ ap (λ (o : Ordered). tallyAfter t (o .effect)) orders in
-        subst (λ (o : Outcome). Tallied (o .bench .store) tally) (sym took)
-        (rw is (taken-tallied b t (behind .good) (behind .tallied) (ahead list at)))
+      tallied-after : Tallied (outcome .bench .store) tally
+      tallied-after =
+          let is : tally ≡ tallyBy t (decidedIn t (ahead list at) .taken) = tally-is ∙ ap (λ (a : Answer). tallyBy t (a .taken)) decided in
+          subst (λ (o : Outcome). Tallied (o .bench .store) tally) (sym took)
+          (rw is (taken-tallied b t (behind .good) (behind .tallied) (ahead list at)))
 
-    here : CommandAt list at span
-    here = command-at list at span more spans
+      here : CommandAt list at span
+      here = command-at list at span more spans
 
-    one : rests (drop at list) ≡ drop at list ∷ rests (drop (at + span) list)
-    one =
-        rests-more (drop at list) (omega (arith, length-drop at list))
-        ∙ rw (← here .own, drop-drop)
+      one : rests (drop at list) ≡ drop at list ∷ rests (drop (at + span) list)
+      one =
+          rests-more (drop at list) (omega (arith, length-drop at list))
+          ∙ rw (← here .own, drop-drop)
 
-    abbrev later : Listed
-    later = onward (outcome .bench) sender list (at + span) (n + 1)
+      abbrev later : Listed
+      later = onward (outcome .bench) sender list (at + span) (n + 1)
 
-    abbrev own : List ℕ
-    own = recordBytes sender (told .code) (told .par) (n + 1)
+      abbrev own : List ℕ
+      own = recordBytes sender (told .code) (told .par) (n + 1)
 
-    split : onward b sender list at n ≡ record { bench = later .bench; records = own ++ later .records }
-    unfolding runRests
-    split = rw (one, ← from-place list at, ← took)
+      split : onward b sender list at n ≡ record { bench = later .bench; records = own ++ later .records }
+      unfolding runRests
+      split = rw (one, ← from-place list at, ← took)
 
-    size : n * 8 + 8 + 8 * length (rests (drop (at + span) list)) ≤ length room
-    size = omega (arith, ap length one)
+      size : n * 8 + 8 + 8 * length (rests (drop (at + span) list)) ≤ length room
+      size = omega (arith, ap length one)
 
-    kept : length (take (n * 8) room) ≡ n * 8
-    kept = length-take-le (n * 8) room (omega (arith, size))
+      kept : length (take (n * 8) room) ≡ n * 8
+      kept = length-take-le (n * 8) room (omega (arith, size))
 
-    front : length (take (n * 8) room ++ own) ≡ (n + 1) * 8
-    front = omega (arith, length-append (take (n * 8) room) own, kept)
+      front : length (take (n * 8) room ++ own) ≡ (n + 1) * 8
+      front = omega (arith, length-append (take (n * 8) room) own, kept)
 
-    abbrev beyond : List ℕ
-    beyond = drop 8 (drop (n * 8) room)
+      abbrev beyond : List ℕ
+      beyond = drop 8 (drop (n * 8) room)
 
-    placed : putMid (n * 8) (length room - n * 8) room part ≡ (take (n * 8) room ++ own) ++ beyond
-    placed =
-        part-written (n * 8) own room part (omega (arith, size)) put
-        ∙ ap (λ l. take (n * 8) room ++ l) (with-room own (drop (n * 8) room) (omega (arith, size, length-drop (n * 8) room)))
-        ∙ sym (append-assoc (take (n * 8) room) own beyond)
+      placed : putMid (n * 8) (length room - n * 8) room part ≡ (take (n * 8) room ++ own) ++ beyond
+      placed =
+          part-written (n * 8) own room part (omega (arith, size)) put
+          ∙ ap (λ l. take (n * 8) room ++ l) (with-room own (drop (n * 8) room) (omega (arith, size, length-drop (n * 8) room)))
+          ∙ sym (append-assoc (take (n * 8) room) own beyond)
 
-    all-written : written (own ++ later .records) (drop (n * 8) room) ≡ own ++ written (later .records) beyond
-    all-written =
-        let long = records-long (outcome .bench) sender (n + 1 + 1) (rests (drop (at + span) list)) in
-        written-both own (later .records) (drop (n * 8) room) (omega (arith, size, length-drop (n * 8) room))
+      all-written : written (own ++ later .records) (drop (n * 8) room) ≡ own ++ written (later .records) beyond
+      all-written =
+          let long = records-long (outcome .bench) sender (n + 1 + 1) (rests (drop (at + span) list)) in
+          written-both own (later .records) (drop (n * 8) room) (omega (arith, size, length-drop (n * 8) room))
 
-    whole : length (putMid (n * 8) (length room - n * 8) room part) ≡ length room
-    whole =
-        ap length placed
-        ∙ length-append (take (n * 8) room ++ own) beyond
-        ∙ omega (arith, front, size, length-drop (n * 8) room, length-drop 8 (drop (n * 8) room))
+      whole : length (putMid (n * 8) (length room - n * 8) room part) ≡ length room
+      whole =
+          ap length placed
+          ∙ length-append (take (n * 8) room ++ own) beyond
+          ∙ omega (arith, front, size, length-drop (n * 8) room, length-drop 8 (drop (n * 8) room))
 
-    pub turn : Behind b₀ sender list room₀ (putMid (n * 8) (length room - n * 8) room part) (benchOf camera entries tally) tally (at + span) (n + 1)
-    turn =
-        record {
-          good = good-after;
-          tallied = tallied-after;
-          within = here .ends;
-          same = whole ∙ behind .same;
-          counted = omega (arith, ap length one);
-          state = ap (λ (l : Listed). l .bench) (sym split) ∙ behind .state;
-          records =
-              rw (placed, take-at (take (n * 8) room ++ own) beyond ((n + 1) * 8) front, drop-at (take (n * 8) room ++ own) beyond ((n + 1) * 8) front)
-              (append-assoc (take (n * 8) room) own (written (later .records) beyond)
-              ∙ ap (λ l. take (n * 8) room ++ l) (sym all-written)
-              ∙ ap (λ (l : Listed). take (n * 8) room ++ written (l .records) (drop (n * 8) room)) (sym split)
-              ∙ behind .records);
-        }
+      turn : Behind b₀ sender list room₀ (putMid (n * 8) (length room - n * 8) room part) after tally (at + span) (n + 1)
+      turn =
+          record {
+            good = good-after;
+            tallied = tallied-after;
+            within = here .ends;
+            same = whole ∙ behind .same;
+            counted = omega (arith, ap length one);
+            state = ap (λ (l : Listed). l .bench) (sym split) ∙ behind .state;
+            records =
+                rw (placed, take-at (take (n * 8) room ++ own) beyond ((n + 1) * 8) front, drop-at (take (n * 8) room ++ own) beyond ((n + 1) * 8) front)
+                (append-assoc (take (n * 8) room) own (written (later .records) beyond)
+                ∙ ap (λ l. take (n * 8) room ++ l) (sym all-written)
+                ∙ ap (λ (l : Listed). take (n * 8) room ++ written (l .records) (drop (n * 8) room)) (sym split)
+                ∙ behind .records);
+          }
+
+    -- The turn of a refused command, which leaves the bench and the tally,
+    pub turn-refused : {verdict : Verdict} → decision ≡ Decision.Refused verdict
+        → Behind b₀ sender list room₀ (putMid (n * 8) (length room - n * 8) room part) b t (at + span) (n + 1)
+    turn-refused is =
+        turn (ap (λ (d : Decision). benchBy b t (decisionOf d .taken)) (sym is)) (ap (λ (d : Decision). tallyBy t (decisionOf d .taken)) (sym is))
+
+    -- and that of an accepted one, which takes effect.
+    pub turn-accepted : {c : Command} {camera : Camera} {entries : List Command} {tally : Tally} → decision ≡ Decision.Accepted c
+        → camera ≡ cameraAfter (b .camera) c → entries ≡ entriesAfter (b .store .entries) t c → tally ≡ tallyAfter t c
+        → Behind b₀ sender list room₀ (putMid (n * 8) (length room - n * 8) room part) (benchOf camera entries tally) tally (at + span) (n + 1)
+    turn-accepted is camera-is entries-is tally-is =
+        turn
+        (rw (camera-is, entries-is, tally-is) (ap (λ (d : Decision). benchBy b t (decisionOf d .taken)) (sym is)))
+        (tally-is ∙ ap (λ (d : Decision). tallyBy t (decisionOf d .taken)) (sym is))
 
   -- The end: nothing is left of the list.
   module _ (end : length list ≤ at) where

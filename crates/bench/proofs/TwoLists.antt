@@ -17,7 +17,8 @@ use Rattle.bench.specs.declared.Bench.{Bench}
 use Rattle.bench.specs.declared.lists.Ran.{Ran}
 use Rattle.bench.specs.declared.lists.Begun.{Begun}
 use Rattle.bench.specs.Carry.{taken}
-use Rattle.bench.specs.Run.{runRests, runList, kitPart, pupilPart, runCode, begunCode, ranOf, refusedWith, runOf, roomAfter}
+use Rattle.bench.specs.Run.{runRests, runList, kitPart, pupilPart, runCode, begunCode, ranOf, runOf, roomAfter}
+use Rattle.bench.specs.Steps.{refusedWith}
 use Rattle.bench.proofs.Sound.{GoodBench, taken-good}
 use Rattle.bench.proofs.Listing.{records-long, written-both}
 

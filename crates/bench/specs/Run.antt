@@ -64,10 +64,6 @@ pub record RunTold : Type 0 where
 abbrev pub ranOf : Ran → RunTold
 ranOf r = record { code = begunCode (r .begun); bench = r .bench; kit = r .kit; pupil = r .pupil }
 
--- A refused run: the bench as it was, and counts of zero.
-abbrev pub refusedWith : Bench → Begun → Ran
-refusedWith b begun = record { bench = b; begun = begun; kit = 0; pupil = 0 }
-
 abbrev pub runFor : ℕ → Bench → List ℕ → List ℕ → RunTold
 runFor code b kit pupil =
     record {

@@ -22,10 +22,6 @@ pub record SecondTold : Type 0 where
 abbrev pub passedOf : Passed → SecondTold
 passedOf r = record { told = verdictOf (r .verdict); bench = r .bench; handed = handedOf (r .handed) }
 
--- A second of a bench that is not sound.
-abbrev pub stayedAt : Bench → SecondTold
-stayedAt b = record { told = toldWith 27 0; bench = b; handed = [] }
-
 -- What is handed over is executed.
 abbrev pub executedAll : Camera → List Kind → Camera
 executedAll camera [] = camera

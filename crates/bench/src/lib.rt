@@ -4,25 +4,26 @@ ghost use mathlib.Core.Path.{_≡_};
 ghost use Rattle.store.specs.Effects.{handedOf};
 ghost use Rattle.bench.specs.Status.{freshBench, paceOf, statusOf, rulesHold, benchSound, toldStatus, statusAt};
 ghost use Rattle.bench.specs.Carry.{verdictOf, outcomeOf, cameraAfter, carryOut, carryOutBytes};
-ghost use Rattle.bench.specs.Steps.{orderOf, effectBy, carriedBy, surveyed};
-ghost use Rattle.bench.specs.Second.{passedOf, stayedAt, executedAll, secondAt};
+ghost use Rattle.bench.specs.Second.{passedOf, executedAll, secondAt};
+ghost use Rattle.bench.specs.Steps.{decisionOf, effectBy, carriedBy, surveyed, stayedAt};
 
+mod deciding;
 mod lists;
-mod orders;
 
 use camera::Camera;
 use camera::Series;
+use deciding::Decision;
+use deciding::decide;
+use deciding::decide_bytes;
 use frame::Frame;
 use frame::Pace;
 pub use lists::Begun;
 pub use lists::ROOM;
 pub use lists::Ran;
 pub use lists::code_of;
-use orders::Order;
-use orders::order_by;
-use orders::order_in;
 use store::Denial;
 use store::Handed;
+use store::Slot;
 use store::Store;
 use store::Survey;
 use store::Tally;
@@ -172,15 +173,12 @@ impl Bench {
         track.is_paced()
     }
 
-    // Can this state be reached from a fresh bench, as far as its rules tell?
+    // Is this state sound: do the fields of the status frame, both series and the macros obey their rules?
     pub fn is_sound(self) -> bool
         ensures { λ r. ⌜ r ≡ benchSound self ⌝ }
     {
-        if !self.obeys() {
-            return false;
-        }
-        let store = self.store;
-        store.is_sound()
+        let survey = self.survey();
+        survey.sound
     }
 
     // Whether this state is sound, and the tally of its macros.
@@ -199,29 +197,41 @@ impl Bench {
         }
     }
 
-    // A command takes effect, by the tally of the macros.
-    fn after(self, tally: Tally, effect: Command) -> Bench
-        ensures { λ r. ⌜ r ≡ effectBy self tally effect ⌝ }
+    // An accepted command takes effect, by the tally of the macros.
+    fn applied(self, tally: Tally, command: Command) -> Bench
+        ensures { λ r. ⌜ r ≡ effectBy self tally command ⌝ }
     {
         let camera = self.camera;
-        let camera = camera_after(camera, effect);
+        let camera = camera_after(camera, command);
         let store = self.store;
         let mut entries = store.entries;
-        if effect.flag {
-            entries[tally.slot()] = effect;
+        match tally.slot_for(command) {
+            Slot::At(i) => {
+                entries[i] = command;
+            }
+            Slot::Nowhere => {}
         }
-        let store = Store::of_parts(entries, tally.after(effect));
+        let store = Store::of_parts(entries, tally.applied(command));
         Bench { store, camera }
     }
 
-    // An order is carried out, by the tally of the macros.
-    fn carried(self, tally: Tally, order: Order) -> Carried
-        ensures { λ r. ⌜ outcomeOf r ≡ carriedBy self tally (orderOf order) ⌝ }
+    // What was decided is carried out, by the tally of the macros.
+    fn carried(self, tally: Tally, decision: Decision) -> Carried
+        ensures { λ r. ⌜ outcomeOf r ≡ carriedBy self tally (decisionOf decision) ⌝ }
     {
-        let verdict = order.verdict;
-        let effect = order.effect;
-        let bench = self.after(tally, effect);
-        Carried { bench, verdict }
+        match decision {
+            Decision::Refused(verdict) => Carried {
+                bench: self,
+                verdict,
+            },
+            Decision::Accepted(command) => {
+                let bench = self.applied(tally, command);
+                Carried {
+                    bench,
+                    verdict: Verdict::Accepted,
+                }
+            }
+        }
     }
 
     // A decoded command: 27, then 8 to 19.
@@ -236,7 +246,7 @@ impl Bench {
             };
         }
         let tally = survey.tally;
-        self.carried(tally, order_by(tally, command))
+        self.carried(tally, decide(tally, command))
     }
 
     // The command at the front of these bytes: 27, then 1 to 19.
@@ -251,7 +261,7 @@ impl Bench {
             };
         }
         let tally = survey.tally;
-        self.carried(tally, order_in(tally, bytes))
+        self.carried(tally, decide_bytes(tally, bytes))
     }
 
     // A second passes: 27; else the two series, then the running macro's next entry.

@@ -7,11 +7,14 @@ ghost use Rattle.words.specs.BigEndian.{written};
 ghost use Rattle.walk.specs.Walk.{rests};
 ghost use Rattle.store.specs.TallySteps.{Tallied};
 ghost use Rattle.bench.specs.Status.{benchSound};
-ghost use Rattle.bench.specs.Run.{begunCode, runList, refusedWith, ranOf, runOf, roomAfter};
+ghost use Rattle.bench.specs.Run.{begunCode, runList, ranOf, runOf, roomAfter};
+ghost use Rattle.bench.specs.Steps.{refusedWith};
 use super::Bench;
 use super::camera_after;
-use super::orders::order_in;
-use super::told_of;
+use super::deciding::Decision;
+use super::deciding::decide_bytes;
+use super::deciding::told_by;
+use store::Slot;
 use store::Store;
 use store::Tally;
 
@@ -46,10 +49,10 @@ pub fn code_of(begun: Begun) -> u8
 }
 
 // One list carried out: the bench afterwards with the tally of its macros, and how many commands the list had.
-pub struct Part {
-    pub bench: Bench,
-    pub tally: Tally,
-    pub count: u32,
+struct Part {
+    bench: Bench,
+    tally: Tally,
+    count: u32,
 }
 
 // Carries a list out and puts the records of its commands, one after another, into the front of a room. The macros' entries stay where they are: each
@@ -69,19 +72,25 @@ fn run_list(bench: Bench, tally: Tally, list: &[u8], sender: u8, room: &mut [u8]
     let mut count: u32 = 0;
     while at < list.len() {
         let rest = &list[at..];
-        let order = order_in(tally, rest);
-        let effect = order.effect;
-        camera = camera_after(camera, effect);
-        if effect.flag {
-            entries[tally.slot()] = effect;
-        }
-        tally = tally.after(effect);
-        let verdict = order.verdict;
-        let told = told_of(verdict);
+        let decision = decide_bytes(tally, rest);
+        let told = told_by(decision);
         let end = (count as usize) * report::RECORD;
         count += 1;
         report::put_record(&mut room[end..], sender, told.code, told.par, count);
         at += wire::span(rest);
+        match decision {
+            Decision::Refused(_) => continue,
+            Decision::Accepted(command) => {
+                camera = camera_after(camera, command);
+                match tally.slot_for(command) {
+                    Slot::At(i) => {
+                        entries[i] = command;
+                    }
+                    Slot::Nowhere => {}
+                }
+                tally = tally.applied(command);
+            }
+        }
     }
     let store = Store::of_parts(entries, tally);
     let bench = Bench { camera, store };

@@ -1,4 +1,4 @@
--- `Bench::carry_out` meets its contract: 27, else what the tally orders.
+-- `Bench::carry_out` meets its contract: 27, else what the tally decides.
 use borrow.Author.Needs.{needs}
 use mathlib.Core.Path.{ap, _∙_}
 use borrow.Author.Tests.{not-true, not-false}
@@ -19,8 +19,8 @@ returns c =
     unsound (start .args .self) (start .args .command)
     (survey-unsound (start .args .self) (start .good .0) (survey .survey .result) (survey .survey .ensures) (not-true _ (c .if1 .taken)))
 
-order-by-requires : tie.Need-order-by-requires
-order-by-requires c κs = search needs
+decide-requires : tie.Need-decide-requires
+decide-requires c κs = search needs
 
 carried-requires : tie.Need-carried-requires
 carried-requires c κs = search needs
@@ -34,8 +34,8 @@ returns-2 c =
     let found = survey .survey .result in
     let good = survey-good b (start .good .0) found (survey .survey .ensures) (not-false _ (sound .if1 .left)) in
     c .carried .ensures
-    ∙ ap (carriedBy b (found .tally)) (c .before .order-by .ensures)
+    ∙ ap (carriedBy b (found .tally)) (c .before .decide .ensures)
     ∙ carried-by b (found .tally) good (survey-tallied b (start .good .0) found (survey .survey .ensures)) (start .args .command)
 
 pub carry-out-spec : {M : Type 1} → statement M
-carry-out-spec = tie.close (tie.spec survey-requires returns order-by-requires carried-requires returns-2)
+carry-out-spec = tie.close (tie.spec survey-requires returns decide-requires carried-requires returns-2)

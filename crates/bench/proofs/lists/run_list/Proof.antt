@@ -1,16 +1,20 @@
 -- `run_list` meets its contract, by the three laws of `Listing`: the loop's invariant is that what is left of the list, carried out from here, gives
 -- what the whole list gives from its start, with a tally that is true of a sound bench. Each turn passes one byte at least.
-use Prim.Native.Nat.{_+_, _*_, _-_, _≤_}
-use mathlib.Core.Path.{_≡_, _∙_}
+use Prim.Native.Nat.{_+_, _*_, _-_, _≤_, _<_}
+use mathlib.Core.Path.{_≡_, sym, ap, _∙_}
 use mathlib.Core.Logic.{⊎-elim}
+use mathlib.Core.List.{List}
 use native.Mathlib.Omega.{arith}
 use lib.ListN.{length}
 use borrow.Author.Needs.{needs}
 use Rattle.walk.proofs.Rests.{rests-512}
 use Rattle.walk.proofs.Turns.{CommandAt, command-at}
-use Rattle.store.specs.TallySteps.{entriesAfter}
+use Rattle.wire.specs.declared.kinds.Command.{Command}
+use Rattle.store.specs.declared.tally.Slot.{Slot}
+use Rattle.store.specs.TallySteps.{putInto, entriesAfter}
+use Rattle.store.proofs.Laws.{slot-within}
 use Rattle.bench.proofs.Shapes.{shaped}
-use Rattle.bench.proofs.Listing.{benchOf, Behind, start, from-parts, more-rests, turn, list-ended}
+use Rattle.bench.proofs.Listing.{benchOf, Behind, start, from-parts, more-rests, turn-refused, turn-accepted, list-ended}
 use Rattle.bench.proofs.lists.run_list.Statement.{statement}
 use Rattle.bench.proofs.lists.run_list.Tie as tie
 
@@ -25,8 +29,8 @@ abbrev μ-loop : tie.MeasureT-loop
 abbrev entry : tie.At-loop Inv-loop μ-loop → tie.Start Inv-loop μ-loop
 entry c = c .before .before .before .before .before .before
 
-abbrev begun : tie.After-told-of Inv-loop μ-loop → tie.In-loop Inv-loop μ-loop
-begun c = c .before .before .before .before .before .before .before
+abbrev begun : tie.After-told-by Inv-loop μ-loop → tie.In-loop Inv-loop μ-loop
+begun c = c .before .before .before
 
 loop-holds : tie.Need-loop-holds Inv-loop μ-loop
 loop-holds c =
@@ -44,26 +48,11 @@ part-rest-start c = search needs
 part-rest-end : tie.Need-part-rest-end Inv-loop μ-loop
 part-rest-end c = search needs
 
-order-in-requires : tie.Need-order-in-requires Inv-loop μ-loop
-order-in-requires c κs = search needs
+decide-bytes-requires : tie.Need-decide-bytes-requires Inv-loop μ-loop
+decide-bytes-requires c κs = search needs
 
-camera-after-requires : tie.Need-camera-after-requires Inv-loop μ-loop
-camera-after-requires c κs = search needs
-
-slot-requires : tie.Need-slot-requires Inv-loop μ-loop
-slot-requires c κs = search needs
-
-mul-entries : tie.Need-mul-entries Inv-loop μ-loop
-mul-entries c = omega (arith, c .slot .ensures .1)
-
-array-set-from-entries : tie.Need-array-set-from-entries Inv-loop μ-loop
-array-set-from-entries c = c .slot .ensures .1
-
-after-requires : tie.Need-after-requires Inv-loop μ-loop
-after-requires c κs = search needs
-
-told-of-requires : tie.Need-told-of-requires Inv-loop μ-loop
-told-of-requires c κs = search needs
+told-by-requires : tie.Need-told-by-requires Inv-loop μ-loop
+told-by-requires c κs = search needs
 
 -- The list still has a command here, so its record has room, and its number is at most 512.
 next : (c : tie.In-loop Inv-loop μ-loop)
@@ -111,28 +100,85 @@ here c =
 add-at : tie.Need-add-at Inv-loop μ-loop
 add-at c = omega (arith, here c, entry (begun (c .before .before .before .before .before) .before) .pre .0 .0)
 
-loop-less : tie.Need-loop-less Inv-loop μ-loop
-loop-less c = omega (arith, here c)
+-- Refused: the bench and the tally stay.
+enum-told : tie.Need-enum-told Inv-loop μ-loop
+enum-told c = search needs
 
--- An appended command stands in its slot then, and for any other the entries are as before.
-kept : (c : tie.Joined1 Inv-loop μ-loop)
-    → (let ordered = c .before .before .before in
-    let at = ordered .before .before .before .loop in
-    c .if1 .entries ≡ entriesAfter (at .entries) (at .tally) (ordered .order-in .result .effect))
-kept c = ⊎-elim (λ w. w .2 ∙ rw (w .0 .taken, w .1 .ensures .0)) (λ w. w .1 ∙ rw (w .0 .left)) (c .if1 .came)
+loop-less : tie.Need-loop-less Inv-loop μ-loop
+loop-less c = omega (arith, here (c .before .before))
 
 loop-again : tie.Need-loop-again Inv-loop μ-loop
 loop-again c =
-    let put = c .before .before .before in
+    let spans = c .before .before in
+    let put = spans .before .before .before in
     let told = put .before .before in
-    let after = told .before in
-    let joined = after .before in
-    let camera = joined .before in
-    let ordered = camera .before .before in
     let turned = begun told in
-    turn (turned .before .loop .inv) (entry (turned .before) .pre .0 .1) (turned .loop-test .taken) (ordered .order-in .result)
-    (ordered .order-in .ensures) (camera .camera-after .ensures) (kept joined) (after .after .ensures) (told .told-of .ensures)
-    (put .put-record .ensures .1) (c .span .ensures)
+    turn-refused (turned .before .loop .inv) (entry (turned .before) .pre .0 .1) (turned .loop-test .taken) (told .before .decide-bytes .result)
+    (told .before .decide-bytes .ensures) (told .told-by .ensures) (put .put-record .ensures .1) (spans .span .ensures) (c .enum-told .given .1)
+
+-- Accepted: the command takes effect.
+enum-known-decision : tie.Need-enum-known-decision Inv-loop μ-loop
+enum-known-decision c = search needs
+
+camera-after-requires : tie.Need-camera-after-requires Inv-loop μ-loop
+camera-after-requires c κs = search needs
+
+slot-for-requires : tie.Need-slot-for-requires Inv-loop μ-loop
+slot-for-requires c κs = search needs
+
+enum-known-i : tie.Need-enum-known-i Inv-loop μ-loop
+enum-known-i c = search needs
+
+-- The turn in which a slot is asked for, and the command that it is for.
+abbrev asking : tie.After-slot-for Inv-loop μ-loop → tie.At-loop Inv-loop μ-loop
+asking c = begun (c .before .before .before .before .before .before .before .before .before .before) .before
+
+abbrev accepted : tie.After-slot-for Inv-loop μ-loop → Command
+accepted c = c .before .before .before .decision .given .0 .0
+
+-- A slot that was found is one of the 192.
+within : (c : tie.After-known-told2 Inv-loop μ-loop) → c .before .i .given .0 .0 < 192
+within c =
+    let slot = c .before .before .before in
+    slot-within (asking slot .loop .tally) (accepted slot) (c .before .i .given .0 .0) (sym (c .before .i .given .1) ∙ slot .slot-for .ensures)
+
+mul-entries : tie.Need-mul-entries Inv-loop μ-loop
+mul-entries c = omega (arith, within c)
+
+array-set-from-entries : tie.Need-array-set-from-entries Inv-loop μ-loop
+array-set-from-entries c = within c
+
+enum-told-2 : tie.Need-enum-told-2 Inv-loop μ-loop
+enum-told-2 c = search needs
+
+applied-requires : tie.Need-applied-requires Inv-loop μ-loop
+applied-requires c κs = search needs
+
+loop-less-2 : tie.Need-loop-less-2 Inv-loop μ-loop
+loop-less-2 c = omega (arith, here (c .before .before .before .before .before .before .before))
+
+-- An appended command stands in its slot then, and for any other the entries are as before.
+kept : (c : tie.At-match2-came Inv-loop μ-loop)
+    → (let at = asking (c .before) .loop in c .match2 .entries ≡ entriesAfter (at .entries) (at .tally) (accepted (c .before)))
+kept c =
+    let put : Slot → List Command = λ s. putInto (asking (c .before) .loop .entries) s (accepted (c .before)) in
+    ⊎-elim
+    (λ w. w .3 ∙ ap put (sym (w .1 .given .1) ∙ c .before .slot-for .ensures))
+    (λ w. w .2 ∙ ap put (sym (w .1 .given .1) ∙ c .before .slot-for .ensures))
+    (c .match2 .came)
+
+loop-again-2 : tie.Need-loop-again-2 Inv-loop μ-loop
+loop-again-2 c =
+    let joined = c .before in
+    let camera = joined .before .before in
+    let decision = camera .before .before in
+    let spans = decision .before .before in
+    let put = spans .before .before .before in
+    let told = put .before .before in
+    let turned = begun told in
+    turn-accepted (turned .before .loop .inv) (entry (turned .before) .pre .0 .1) (turned .loop-test .taken) (told .before .decide-bytes .result)
+    (told .before .decide-bytes .ensures) (told .told-by .ensures) (put .put-record .ensures .1) (spans .span .ensures) (decision .decision .given .1)
+    (camera .camera-after .ensures) (kept joined) (c .applied .ensures)
 
 of-parts-requires : tie.Need-of-parts-requires Inv-loop μ-loop
 of-parts-requires c κs = search needs
@@ -156,13 +202,8 @@ run-list-spec =
     sub-rest
     part-rest-start
     part-rest-end
-    order-in-requires
-    camera-after-requires
-    slot-requires
-    mul-entries
-    array-set-from-entries
-    after-requires
-    told-of-requires
+    decide-bytes-requires
+    told-by-requires
     cast-end
     mul-end
     add-count
@@ -172,8 +213,19 @@ run-list-spec =
     put-record-requires
     span-requires
     add-at
+    enum-told
     loop-less
     loop-again
+    enum-known-decision
+    camera-after-requires
+    slot-for-requires
+    enum-known-i
+    mul-entries
+    array-set-from-entries
+    enum-told-2
+    applied-requires
+    loop-less-2
+    loop-again-2
     of-parts-requires
     same-length
     returns)

@@ -1,19 +1,15 @@
--- `orders::order_in` meets its contract: what the reader refuses is inert, else what the tally says.
+-- `deciding::decide_bytes` meets its contract: what the reader refuses is refused, else the tally decides.
 use borrow.Author.Needs.{needs}
-use mathlib.Core.Path.{ap, _∙_}
-use Rattle.bench.specs.Steps.{orderOf}
-use Rattle.bench.proofs.Ordering.{read-refused, read-passed}
-use Rattle.bench.proofs.orders.order_in.Statement.{statement}
-use Rattle.bench.proofs.orders.order_in.Tie as tie
+use mathlib.Core.Path.{_∙_}
+use Rattle.bench.proofs.Decisions.{read-refused, read-passed}
+use Rattle.bench.proofs.deciding.decide_bytes.Statement.{statement}
+use Rattle.bench.proofs.deciding.decide_bytes.Tie as tie
 
 read-command-requires : tie.Need-read-command-requires
 read-command-requires c κs = search needs
 
 enum-known-refusal : tie.Need-enum-known-refusal
 enum-known-refusal c = search needs
-
-refused-requires : tie.Need-refused-requires
-refused-requires c κs = search needs
 
 enum-known-command : tie.Need-enum-known-command
 enum-known-command c = search needs
@@ -23,11 +19,10 @@ permitted-requires c κs = search needs
 
 returns : tie.Need-returns
 returns c =
-    let told = c .before .before .before .before in
+    let told = c .before .before .before in
     let start = told .before .before .args in
-    let refusal = c .before .before .refusal .given in
-    ap orderOf (c .refused .ensures)
-    ∙ read-refused (start .tally) (start .bytes .now) (refusal .0 .0) (rw (refusal .1) at (told .read-command .ensures))
+    let refusal = c .before .refusal .given in
+    read-refused (start .tally) (start .bytes .now) (refusal .0 .0) (rw (refusal .1) at (told .read-command .ensures))
 
 returns-2 : tie.Need-returns-2
 returns-2 c =
@@ -37,13 +32,12 @@ returns-2 c =
     c .permitted .ensures
     ∙ read-passed (start .tally) (start .bytes .now) (command .0 .0) (rw (command .1) at (told .read-command .ensures))
 
-pub order-in-spec : {M : Type 1} → statement M
-order-in-spec =
+pub decide-bytes-spec : {M : Type 1} → statement M
+decide-bytes-spec =
     tie.close
     (tie.spec
     read-command-requires
     enum-known-refusal
-    refused-requires
     enum-known-command
     permitted-requires
     returns

@@ -1,4 +1,4 @@
--- What becomes of a command, step by step as the tally is asked: each part that passes leaves the rows behind it, and a refused command is inert.
+-- What becomes of a command, step by step as the tally is asked: each part that passes leaves the rows behind it, and a refusal takes no command.
 use Prim.Native.Nat.{ℕ}
 use mathlib.Core.Path.{_≡_, refl, sym, ap, _∙_}
 use mathlib.Core.List.{List, [], _∷_, _++_}
@@ -10,7 +10,7 @@ use Rattle.wire.specs.declared.judging.Told.{Told}
 use Rattle.wire.specs.declared.decoding.Reading.{Reading}
 use Rattle.wire.specs.Codes.{firstOf}
 use Rattle.wire.specs.Judge.{toldWith, toldOf, judged, judgeCode, argChecks, firstBadIn, parOf}
-use Rattle.wire.specs.Read.{Answer, answerOf, readCode, readOf, readChecks}
+use Rattle.wire.specs.Read.{Answer, answerOf, answerFor, readCode, readOf, readChecks}
 use Rattle.wire.proofs.FirstOf.{first-append}
 use Rattle.wire.proofs.Answers.{refusal-code}
 use Rattle.store.specs.declared.checks.Denial.{Denial}
@@ -19,40 +19,40 @@ use Rattle.store.specs.declared.tally.Tally.{Tally}
 use Rattle.store.specs.Checks.{codeOf, toldPermit}
 use Rattle.store.specs.TallySteps.{tallyChecks, tallyCode}
 use Rattle.bench.specs.Carry.{said}
-use Rattle.bench.specs.Steps.{Ordered, inert, orderFor, orderPermitted, orderBy, orderIn}
+use Rattle.bench.specs.Steps.{permittedBy, decidedBy, decidedIn}
 use Rattle.bench.proofs.Outcomes.{judge-coded, read-coded}
 
--- What a refusal orders: its code and parameter, and nothing to take effect.
-abbrev stays : Told → Ordered
-stays told = record { told = told; effect = inert }
+-- What a refusal says: its code and parameter, and no command.
+abbrev none : Told → Answer
+none told = record { told = told; taken = [] }
 
 -- Refused by rows 1 to 10.
-misread : (c : Command) (code : ℕ) (r : Refusal) → toldOf r ≡ toldWith code (parOf code (firstBadIn c)) → stays (toldOf r) ≡ orderFor code c
+misread : (c : Command) (code : ℕ) (r : Refusal) → toldOf r ≡ toldWith code (parOf code (firstBadIn c)) → none (toldOf r) ≡ answerFor code c
 misread c code r e =
     let other : eqb code 0 ≡ false = rw (ap (λ (t : Told). t .code) e) at (refusal-code r) in
     rw (e, other)
 
-denial-stays : (c : Command) (d : Denial) → stays (toldWith (codeOf d) 0) ≡ orderFor (codeOf d) c
-denial-stays c Denial.NoneOpen = refl
-denial-stays c Denial.AnotherOpen = refl
-denial-stays c Denial.AlreadyClosed = refl
-denial-stays c Denial.NoEntries = refl
-denial-stays c Denial.TooLong = refl
-denial-stays c Denial.NoSlot = refl
-denial-stays c Denial.NotBelow = refl
-denial-stays c Denial.NotClosed = refl
-denial-stays c Denial.Running = refl
+denial-none : (c : Command) (d : Denial) → none (toldWith (codeOf d) 0) ≡ answerFor (codeOf d) c
+denial-none c Denial.NoneOpen = refl
+denial-none c Denial.AnotherOpen = refl
+denial-none c Denial.AlreadyClosed = refl
+denial-none c Denial.NoEntries = refl
+denial-none c Denial.TooLong = refl
+denial-none c Denial.NoSlot = refl
+denial-none c Denial.NotBelow = refl
+denial-none c Denial.NotClosed = refl
+denial-none c Denial.Running = refl
 
 -- Rows 11 to 19: denied, or granted.
 pub denied : (t : Tally) (c : Command) (d : Denial) → toldPermit (Permit.Denied d) ≡ tallyCode t c
-    → stays (toldWith (codeOf d) 0) ≡ orderPermitted t c
-unfolding orderPermitted
-denied t c d e = denial-stays c d ∙ ap (λ n. orderFor n c) e
+    → none (toldWith (codeOf d) 0) ≡ permittedBy t c
+unfolding permittedBy
+denied t c d e = denial-none c d ∙ ap (λ n. answerFor n c) e
 
 pub granted : (t : Tally) (c : Command) → toldPermit Permit.Granted ≡ tallyCode t c
-    → record { told = toldWith 0 0; effect = c } ≡ orderPermitted t c
-unfolding orderPermitted
-granted t c e = ap (λ n. orderFor n c) e
+    → answerOf (Reading.Taken c) ≡ permittedBy t c
+unfolding permittedBy
+granted t c e = ap (λ n. answerFor n c) e
 
 -- The rows of the tally speak where those of judging, or of reading, all passed.
 judge-tally : (t : Tally) (c : Command) → firstOf (argChecks c ++ tallyChecks t c) ≡ cond (eqb (judgeCode c) 0) (tallyCode t c) (judgeCode c)
@@ -65,35 +65,35 @@ unfolding readCode tallyCode
 read-tally t s = first-append (readChecks s) (tallyChecks t (said s)) (read-coded s)
 
 -- A decoded command: refused by 8 to 10, or what rows 11 to 19 say.
-pub judged-refused : (t : Tally) (c : Command) (r : Refusal) → toldOf r ≡ judged c → stays (toldOf r) ≡ orderBy t c
-unfolding orderBy
+pub judged-refused : (t : Tally) (c : Command) (r : Refusal) → toldOf r ≡ judged c → none (toldOf r) ≡ decidedBy t c
+unfolding decidedBy
 judged-refused t c r e =
     let other : eqb (judgeCode c) 0 ≡ false = rw (ap (λ (t : Told). t .code) e) at (refusal-code r) in
     let code : firstOf (argChecks c ++ tallyChecks t c) ≡ judgeCode c = rw (judge-tally t c, other) in
-    misread c (judgeCode c) r e ∙ ap (λ n. orderFor n c) (sym code)
+    misread c (judgeCode c) r e ∙ ap (λ n. answerFor n c) (sym code)
 
-pub judged-passed : (t : Tally) (c : Command) → toldWith 0 0 ≡ judged c → orderPermitted t c ≡ orderBy t c
-unfolding orderBy orderPermitted
+pub judged-passed : (t : Tally) (c : Command) → toldWith 0 0 ≡ judged c → permittedBy t c ≡ decidedBy t c
+unfolding decidedBy permittedBy
 judged-passed t c e =
-    let none : judgeCode c ≡ 0 = sym (ap (λ (t : Told). t .code) e) in
-    let code : firstOf (argChecks c ++ tallyChecks t c) ≡ tallyCode t c = rw (judge-tally t c, none) in
-    ap (λ n. orderFor n c) (sym code)
+    let zero : judgeCode c ≡ 0 = sym (ap (λ (t : Told). t .code) e) in
+    let code : firstOf (argChecks c ++ tallyChecks t c) ≡ tallyCode t c = rw (judge-tally t c, zero) in
+    ap (λ n. answerFor n c) (sym code)
 
 -- The command at the front of some bytes: refused by 1 to 10, or what rows 11 to 19 say of the command that was read.
-pub read-refused : (t : Tally) (s : List ℕ) (r : Refusal) → answerOf (Reading.Refused r) ≡ readOf s → stays (toldOf r) ≡ orderIn t s
-unfolding orderIn readOf
+pub read-refused : (t : Tally) (s : List ℕ) (r : Refusal) → answerOf (Reading.Refused r) ≡ readOf s → none (toldOf r) ≡ decidedIn t s
+unfolding decidedIn readOf
 read-refused t s r e =
     let told : toldOf r ≡ toldWith (readCode s) (parOf (readCode s) (firstBadIn (said s))) = ap (λ (a : Answer). a .told) e in
     let other : eqb (readCode s) 0 ≡ false = rw (ap (λ (t : Told). t .code) told) at (refusal-code r) in
     let code : firstOf (readChecks s ++ tallyChecks t (said s)) ≡ readCode s = rw (read-tally t s, other) in
-    misread (said s) (readCode s) r told ∙ ap (λ n. orderFor n (said s)) (sym code)
+    misread (said s) (readCode s) r told ∙ ap (λ n. answerFor n (said s)) (sym code)
 
-pub read-passed : (t : Tally) (s : List ℕ) (c : Command) → answerOf (Reading.Taken c) ≡ readOf s → orderPermitted t c ≡ orderIn t s
-unfolding orderIn readOf orderPermitted
+pub read-passed : (t : Tally) (s : List ℕ) (c : Command) → answerOf (Reading.Taken c) ≡ readOf s → permittedBy t c ≡ decidedIn t s
+unfolding decidedIn readOf permittedBy
 read-passed t s c e =
-    let none : readCode s ≡ 0 = sym (ap (λ (a : Answer). a .told .code) e) in
+    let zero : readCode s ≡ 0 = sym (ap (λ (a : Answer). a .told .code) e) in
     let both : c ∷ [] ≡ cond (eqb (readCode s) 0) (said s ∷ []) [] = ap (λ (a : Answer). a .taken) e in
-    let one : c ∷ [] ≡ said s ∷ [] = rw none at both in
+    let one : c ∷ [] ≡ said s ∷ [] = rw zero at both in
     let same : c ≡ said s = cc in
-    let code : firstOf (readChecks s ++ tallyChecks t (said s)) ≡ tallyCode t (said s) = rw (read-tally t s, none) in
-    ap (orderPermitted t) same ∙ ap (λ n. orderFor n (said s)) (sym code)
+    let code : firstOf (readChecks s ++ tallyChecks t (said s)) ≡ tallyCode t (said s) = rw (read-tally t s, zero) in
+    ap (permittedBy t) same ∙ ap (λ n. answerFor n (said s)) (sym code)
