@@ -44,7 +44,7 @@ use Rattle.bench.proofs.MacroRun.{now-runs, now-hands, next-says, next-
 
 -- ## Soundness
 
--- "A state reached from a fresh one is always sound": a fresh bench is, each event (a command, decoded or from bytes, or a second) keeps it, and so
+-- "A state reached from a fresh one is always sound": a fresh bench is, each event (a command, decoded or from bytes, a second, a run) keeps it, and so
 -- every reached bench is. (`GoodBench b`: the test of 27 passes, and the arrays of the store have their lengths, as every program's have.)
 pub fresh-is-sound : GoodBench freshBench
 fresh-is-sound = fresh-sound
@@ -75,13 +75,6 @@ sound-answers b good =
       written = status-written b good;
       read-back = read-written (statusOf b) (status-rules b good);
     }
-
--- Soundness in the form that whole runs ask for.
-sound-bench : (b : Bench) → GoodBench b → benchSound b ≡ true
-sound-bench b good = good .sound
-
-bytes-keep : (b : Bench) (s : List ℕ) → GoodBench b → GoodBench (carryOutBytes b s .bench)
-bytes-keep b s good = event-keeps b good (bytes s)
 
 -- ## Demand 1: "a refused command leaves the bench as it was"
 
@@ -240,10 +233,10 @@ demand-3-idle b good free es none = idles (after b es) (after-keeps b good es) (
 -- A run is no more than its commands, one after another, each an event from bytes (none where the run is refused). So a run may stand among the events of
 -- all that is said above, a RUN or a STOP accepted in the middle of a list included, and the bench that it leaves is reached and sound.
 pub run-is-its-commands : (b : Bench) → GoodBench b → (kit pupil room : List ℕ) → runOf b kit pupil room .bench ≡ after b (eventsOf b kit pupil room)
-run-is-its-commands b good kit pupil room = run-leaves GoodBench sound-bench bytes-keep b good kit pupil room
+run-is-its-commands b good kit pupil room = run-leaves b good kit pupil room
 
 pub run-stays-reached : (b : Bench) → Reached b → (kit pupil room : List ℕ) → Reached (runOf b kit pupil room .bench)
-run-stays-reached b r kit pupil room = run-reaches GoodBench sound-bench bytes-keep b (reached-sound b r) kit pupil room r
+run-stays-reached b r kit pupil room = run-reaches b r kit pupil room
 
 -- Demand 1 for runs: a code other than 0 leaves the bench and every lent byte, with counts of zero.
 pub demand-1-run : (b : Bench) (kit pupil room : List ℕ) → runOf b kit pupil room .code ≢ 0 → Untouched b kit pupil room
@@ -258,14 +251,14 @@ demand-2-run b kit pupil room = run-order b kit pupil room
 pub demand-2-kit : (b : Bench) → GoodBench b → (kit pupil room : List ℕ) → runOf b kit pupil room .code ≡ 0 → (k : ℕ) → k < length (rests kit)
     → Carries (recordAt (roomAfter b kit pupil room) k) 1 (carryOutBytes (after b (map bytes (take k (rests kit)))) (restAt kit k) .told) (k + 1)
 demand-2-kit b good kit pupil room accepted k there =
-    rw (kit-record b kit pupil room accepted k there, kit-verdict GoodBench sound-bench bytes-keep b good kit pupil k)
+    rw (kit-record b kit pupil room accepted k there, kit-verdict b good kit pupil k)
     (record-carries 1 (carryOutBytes (after b (map bytes (take k (rests kit)))) (restAt kit k) .told) (k + 1))
 
 pub demand-2-pupil : (b : Bench) → GoodBench b → (kit pupil room : List ℕ) → runOf b kit pupil room .code ≡ 0 → (k : ℕ) → k < length (rests pupil)
     → Carries (recordAt (roomAfter b kit pupil room) (length (rests kit) + k)) 2
     (carryOutBytes (after b (map bytes (rests kit ++ take k (rests pupil)))) (restAt pupil k) .told) (k + 1)
 demand-2-pupil b good kit pupil room accepted k there =
-    rw (pupil-record b kit pupil room accepted k there, pupil-verdict GoodBench sound-bench bytes-keep b good kit pupil k)
+    rw (pupil-record b kit pupil room accepted k there, pupil-verdict b good kit pupil k)
     (record-carries 2 (carryOutBytes (after b (map bytes (rests kit ++ take k (rests pupil)))) (restAt pupil k) .told) (k + 1))
 
 -- The bytes shown for a sender and number are the very bytes that the record judged: alone they get the same verdict and leave the same bench.

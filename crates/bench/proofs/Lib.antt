@@ -11,6 +11,7 @@ pub mod Camera
 pub mod Sound
 pub mod ByTally
 pub mod MacroRun
+pub mod InTurn
 pub mod Outcomes
 pub mod Own
 mod Decisions

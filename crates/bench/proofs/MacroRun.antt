@@ -1,4 +1,4 @@
--- A run over any events: the macro goes on second by second until its list has ended, whatever commands arrive, unless a STOP is accepted.
+-- A running macro over any events: it goes on second by second until its list has ended, whatever commands arrive, unless a STOP is accepted.
 use Prim.Native.Nat.{ℕ, suc, _+_, _-_, _≤_, _<_}
 use mathlib.Core.Path.{_≡_, refl, sym, ap, _∙_, subst}
 use mathlib.Core.List.{List, [], _∷_, _++_}
@@ -13,6 +13,8 @@ use Rattle.wire.specs.declared.kinds.Command.{Command}
 use Rattle.wire.specs.declared.decoding.Reading.{Reading}
 use Rattle.wire.specs.Judge.{toldWith, judgeCode}
 use Rattle.wire.specs.Read.{Answer, answerOf, readCode, readOf}
+use Rattle.walk.specs.Walk.{rests}
+use Rattle.store.specs.declared.roles.Role.{Role}
 use Rattle.store.specs.declared.Store.{Store}
 use Rattle.store.specs.Roles.{isRun}
 use Rattle.store.specs.Slots.{isClosed}
@@ -22,55 +24,87 @@ use Rattle.store.specs.Effects.{nextEntry, afterSecond}
 use Rattle.store.proofs.Sound.{closed-small}
 use Rattle.store.proofs.Running.{RunOf, run-starts, run-stays, RunSecond, run-second, applied-idle, second-idle}
 use Rattle.bench.specs.declared.Bench.{Bench}
-use Rattle.bench.specs.Carry.{Outcome, outcomeFor, effectOf, carryCode, carryOut, said, carryBytesCode, carryOutBytes}
+use Rattle.bench.specs.Carry.{Outcome, outcomeFor, effectOf, carryCode, carryOut, said, taken, carryBytesCode, carryOutBytes}
 use Rattle.bench.specs.Second.{secondAt}
-use Rattle.bench.specs.Events.{Event, command, bytes, second, afterOne, after, secondsIn, isStop, accepts, acceptsAny}
+use Rattle.bench.specs.Events.{Event, command, bytes, second, run, afterOne, after, secondsIn, isStop}
+use Rattle.bench.specs.Events.{executes, takes, takesAny, accepts, acceptsAny}
 use Rattle.bench.proofs.Outcomes.{carry-code, read-then, carry-bytes-code}
-use Rattle.bench.proofs.Sound.{GoodBench, good-store, effect-keeps, Takes, by-command, by-bytes, second-is, event-keeps, after-keeps}
+use Rattle.bench.proofs.InTurn.{leftBy, by-run}
+use Rattle.bench.proofs.Sound.{GoodBench, good-store, Accepted, effect-keeps, Takes, by-command, by-bytes, by-taken, taken-good}
+use Rattle.bench.proofs.Sound.{second-is, event-keeps, after-keeps}
 
 -- Macro m runs on bench b with the list w, of which k seconds are over.
 abbrev Runs : ℕ → List (List Kind) → ℕ → Bench → Type 0
 Runs m w k b = RunOf m w k (b .store)
 
--- A command that is accepted and is no STOP leaves the run as it was.
-module _ (m : ℕ) (w : List (List Kind)) (k : ℕ) (b : Bench) (good : GoodBench b) (run : Runs m w k b) where
-  taken-stays : (e : Event) (c : Command) → Takes b e c → accepts isStop b e ≡ false → Runs m w k (effectOf b c)
-  taken-stays e c t other = run-stays (b .store) (good-store b good) m w k run c (t .passed .judge) (t .passed .permit) (sym (t .told isStop) ∙ other)
+-- What an accepted command keeps unless it executes a role of some kind, every event but a second keeps in which no such command is accepted.
+module _ (test : Role → Bool) (P : Bench → Type 0)
+    (effect : (b : Bench) → GoodBench b → P b → (c : Command) → Accepted b c → executes test c ≡ false → P (effectOf b c)) where
+  taking : (b : Bench) → GoodBench b → P b → (code : ℕ) (c : Command) → takes test code c ≡ false → Takes b code c → P (effectOf b c)
+  taking b good holds code c none t = effect b good holds c (t .passed) (rw (t .zero) at none)
 
-  pub command-stays : (c : Command) → accepts isStop b (command c) ≡ false → Runs m w k (afterOne b (command c))
-  command-stays c other = by-command (Runs m w k) b good c run (λ t. taken-stays (command c) c t other)
+  command-keeps : (b : Bench) → GoodBench b → P b → (c : Command) → accepts test b (command c) ≡ false → P (afterOne b (command c))
+  command-keeps b good holds c none = by-command P b good c holds (taking b good holds (carryCode b c) c none)
 
-  pub bytes-stays : (s : List ℕ) → accepts isStop b (bytes s) ≡ false → Runs m w k (afterOne b (bytes s))
-  bytes-stays s other = by-bytes (Runs m w k) b good s run (λ t. taken-stays (bytes s) (said s) t other)
+  bytes-keep : (b : Bench) → GoodBench b → P b → (s : List ℕ) → accepts test b (bytes s) ≡ false → P (afterOne b (bytes s))
+  bytes-keep b good holds s none = by-bytes P b good s holds (taking b good holds (carryBytesCode b s) (said s) none)
 
-  pub second-goes : suc k < length w → Runs m w (suc k) (afterOne b second)
-  second-goes more = subst (Runs m w (suc k)) (sym (second-is b good)) (run-second (b .store) (good-store b good) m w k run .goes-on more)
+  -- The commands of a run in turn, and the run.
+  turns-keep : (b : Bench) → GoodBench b → P b → (rs : List (List ℕ)) → takesAny test b rs ≡ false → P (leftBy b rs)
+  turns-keep b good holds [] none = holds
+  turns-keep b good holds (r ∷ rs) none =
+      let parts = neither (takes test (taken b r .told .code) (said r)) (takesAny test (taken b r .bench) rs) none in
+      let next = by-taken P b r holds (taking b good holds (taken b r .told .code) (said r) (parts .0)) in
+      turns-keep (taken b r .bench) (taken-good b good r) next rs (parts .1)
+
+  run-keeps : (b : Bench) → GoodBench b → P b → (kit pupil room : List ℕ) → accepts test b (run kit pupil room) ≡ false
+      → P (afterOne b (run kit pupil room))
+  run-keeps b good holds kit pupil room none =
+      by-run P b kit pupil room holds (λ zero. turns-keep b good holds (rests kit ++ rests pupil) (rw zero at none))
+
+-- An accepted command that is no STOP leaves a running macro as it was, and a second takes it one entry on.
+module _ (m : ℕ) (w : List (List Kind)) (k : ℕ) where
+  effect-stays : (b : Bench) → GoodBench b → Runs m w k b → (c : Command) → Accepted b c → executes isStop c ≡ false → Runs m w k (effectOf b c)
+  effect-stays b good runs c passed other = run-stays (b .store) (good-store b good) m w k runs c (passed .judge) (passed .permit) other
+
+  second-goes : (b : Bench) → GoodBench b → Runs m w k b → suc k < length w → Runs m w (suc k) (afterOne b second)
+  second-goes b good runs more =
+      let next = run-second (b .store) (good-store b good) m w k runs .goes-on more in
+      subst (Runs m w (suc k)) (sym (second-is b good)) next
 
 -- So over any events with no STOP accepted, while seconds of the list are left.
 pub runs-on : (m : ℕ) (w : List (List Kind)) (k : ℕ) (b : Bench) → GoodBench b → Runs m w k b → (es : List Event) → acceptsAny isStop b es ≡ false
     → (n : ℕ) → k + secondsIn es ≡ n → n < length w → Runs m w n (after b es)
-runs-on m w k b good run [] none n e less = let same : k ≡ n = omega arith in subst (λ j. Runs m w j b) same run
-runs-on m w k b good run (command c ∷ es) none n e less =
+runs-on m w k b good runs [] none n e less = let same : k ≡ n = omega arith in subst (λ j. Runs m w j b) same runs
+runs-on m w k b good runs (command c ∷ es) none n e less =
     let parts = neither (accepts isStop b (command c)) (acceptsAny isStop (afterOne b (command c)) es) none in
-    runs-on m w k (afterOne b (command c)) (event-keeps b good (command c)) (command-stays m w k b good run c (parts .0)) es (parts .1) n e less
-runs-on m w k b good run (bytes s ∷ es) none n e less =
+    let next = command-keeps isStop (Runs m w k) (effect-stays m w k) b good runs c (parts .0) in
+    runs-on m w k (afterOne b (command c)) (event-keeps b good (command c)) next es (parts .1) n e less
+runs-on m w k b good runs (bytes s ∷ es) none n e less =
     let parts = neither (accepts isStop b (bytes s)) (acceptsAny isStop (afterOne b (bytes s)) es) none in
-    runs-on m w k (afterOne b (bytes s)) (event-keeps b good (bytes s)) (bytes-stays m w k b good run s (parts .0)) es (parts .1) n e less
-runs-on m w k b good run (second ∷ es) none n e less =
-    runs-on m w (suc k) (afterOne b second) (event-keeps b good second) (second-goes m w k b good run (omega arith)) es none n (omega arith) less
+    let next = bytes-keep isStop (Runs m w k) (effect-stays m w k) b good runs s (parts .0) in
+    runs-on m w k (afterOne b (bytes s)) (event-keeps b good (bytes s)) next es (parts .1) n e less
+runs-on m w k b good runs (second ∷ es) none n e less =
+    runs-on m w (suc k) (afterOne b second) (event-keeps b good second) (second-goes m w k b good runs (omega arith)) es none n (omega arith) less
+runs-on m w k b good runs (run kit pupil room ∷ es) none n e less =
+    let whole = run kit pupil room in
+    let parts = neither (accepts isStop b whole) (acceptsAny isStop (afterOne b whole) es) none in
+    let next = run-keeps isStop (Runs m w k) (effect-stays m w k) b good runs kit pupil room (parts .0) in
+    runs-on m w k (afterOne b whole) (event-keeps b good whole) next es (parts .1) n e less
 
 -- An idle bench stays idle under every command that is accepted and is no RUN, and in every second.
 abbrev Idle : Bench → Type 0
 Idle b = b .store .running ≡ 255
 
-module _ (b : Bench) (good : GoodBench b) (free : Idle b) where
-  taken-idle : (e : Event) (c : Command) → Takes b e c → accepts isRun b e ≡ false → Idle (effectOf b c)
-  taken-idle e c t other = applied-idle (b .store) (good-store b good) c (t .passed .judge) (t .passed .permit) (sym (t .told isRun) ∙ other) free
+effect-idle : (b : Bench) → GoodBench b → Idle b → (c : Command) → Accepted b c → executes isRun c ≡ false → Idle (effectOf b c)
+effect-idle b good free c passed other = applied-idle (b .store) (good-store b good) c (passed .judge) (passed .permit) other free
 
-  event-idle : (e : Event) → accepts isRun b e ≡ false → Idle (afterOne b e)
-  event-idle (command c) other = by-command Idle b good c free (λ t. taken-idle (command c) c t other)
-  event-idle (bytes s) other = by-bytes Idle b good s free (λ t. taken-idle (bytes s) (said s) t other)
-  event-idle second other = ap (λ (b : Bench). b .store .running) (second-is b good) ∙ ap (λ (s : Store). s .running) (second-idle (b .store) free .1) ∙ free
+event-idle : (b : Bench) → GoodBench b → Idle b → (e : Event) → accepts isRun b e ≡ false → Idle (afterOne b e)
+event-idle b good free (command c) none = command-keeps isRun Idle effect-idle b good free c none
+event-idle b good free (bytes s) none = bytes-keep isRun Idle effect-idle b good free s none
+event-idle b good free second none =
+    ap (λ (b : Bench). b .store .running) (second-is b good) ∙ ap (λ (s : Store). s .running) (second-idle (b .store) free .1) ∙ free
+event-idle b good free (run kit pupil room) none = run-keeps isRun Idle effect-idle b good free kit pupil room none
 
 pub stays-idle : (b : Bench) → GoodBench b → Idle b → (es : List Event) → acceptsAny isRun b es ≡ false → Idle (after b es)
 stays-idle b good free [] none = free
@@ -133,7 +167,7 @@ module _ (b : Bench) (good : GoodBench b) (free : Idle b) (m : ℕ) (closed : is
   begun-sound = effect-keeps b good (runCommand m) (record { judge = run-judged; permit = run-permitted })
 
 -- A run that has begun, and events up to second k with no STOP accepted: what that second hands over, and what it leaves.
-module _ (m : ℕ) (w : List (List Kind)) (start : Bench) (good : GoodBench start) (run : Runs m w 0 start)
+module _ (m : ℕ) (w : List (List Kind)) (start : Bench) (good : GoodBench start) (runs : Runs m w 0 start)
     (es : List Event) (k : ℕ) (seconds : secondsIn es + 1 ≡ k) (none : acceptsAny isStop start es ≡ false) (within : k ≤ length w) where
   abbrev now : Bench
   now = after start es
@@ -142,7 +176,7 @@ module _ (m : ℕ) (w : List (List Kind)) (start : Bench) (good : GoodBench star
   now-good = after-keeps start good es
 
   pub now-runs : Runs m w (k - 1) now
-  now-runs = runs-on m w 0 start good run es none (k - 1) (omega arith) (omega arith)
+  now-runs = runs-on m w 0 start good runs es none (k - 1) (omega arith) (omega arith)
 
   pub now-hands : secondAt now .handed ≡ getD w (k - 1) []
   now-hands = handed-is now now-good ∙ run-second (now .store) (good-store now now-good) m w (k - 1) now-runs .handed

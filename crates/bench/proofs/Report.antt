@@ -3,7 +3,7 @@
 use Prim.Native.Nat.{ℕ, zero, suc, _+_, _*_, _≤_, _<_}
 use mathlib.Core.Path.{_≡_, refl, sym, ap, _∙_}
 use mathlib.Core.List.{List, [], _∷_, _++_, append-assoc, map}
-use mathlib.Core.Bool.{Bool, true, false, cond}
+use mathlib.Core.Bool.{Bool, true, false, cond, _&&_, _||_}
 use native.Mathlib.Omega.{arith}
 use lib.ListN.{length, getD, take, drop, length-append}
 use lib.Seq.{drop-drop, drop-append-add, drop-at}
@@ -19,20 +19,18 @@ use Rattle.walk.specs.Shown.{listOf, shownOf}
 use Rattle.walk.proofs.Rests.{records-fit}
 use Rattle.walk.proofs.Shows as shows
 use Rattle.report.specs.Record.{recordBytes}
+use Rattle.store.specs.declared.roles.Role.{Role}
 use Rattle.bench.specs.declared.Bench.{Bench}
 use Rattle.bench.specs.Status.{freshBench, benchSound}
-use Rattle.bench.specs.Carry.{Outcome, taken, carryOutBytes}
-use Rattle.bench.specs.Events.{Event, bytes, after, Reached}
+use Rattle.bench.specs.Carry.{Outcome, said, taken, carryOutBytes}
+use Rattle.bench.specs.Events.{Event, bytes, run, after, Reached, takes, takesAny, accepts, acceptsAny}
 use Rattle.bench.specs.Run.{runRests, runList, kitPart, pupilPart, runChecks, runCode, runOf, reportOf, roomAfter}
 use Rattle.bench.proofs.Outcomes.{sound-bytes}
+use Rattle.bench.proofs.InTurn.{leftBy, kit-then, both-left}
+use Rattle.bench.proofs.Sound.{GoodBench, taken-good, left-good}
 use Rattle.bench.proofs.Listing.{records-long, eight-within}
 use Rattle.bench.proofs.MacroRun.{after-append}
 use Rattle.bench.proofs.Own.{taken-own}
-
--- The bench that some commands leave, each taken on the bench that the one before it left.
-abbrev pub leftBy : Bench → List (List ℕ) → Bench
-leftBy b [] = b
-leftBy b (r ∷ rs) = leftBy (taken b r .bench) rs
 
 -- What command number k + 1 of a list meets: the list from where that command begins, and the bench that the first k commands left.
 abbrev pub restAt : List ℕ → ℕ → List ℕ
@@ -65,12 +63,7 @@ report-long b kit pupil =
 pub report-fits : (b : Bench) (kit pupil : List ℕ) → length kit ≤ 4096 → length pupil ≤ 4096 → length (reportOf b kit pupil) ≤ 8192
 report-fits b kit pupil kit-short pupil-short = omega (arith, report-long b kit pupil, records-fit kit pupil kit-short pupil-short)
 
--- For the theorems below: the bench that a list leaves, and the record at a place of it.
-list-leaves : (b : Bench) (sender number : ℕ) (rs : List (List ℕ)) → runRests b sender number rs .bench ≡ leftBy b rs
-unfolding runRests
-list-leaves b sender number [] = refl
-list-leaves b sender number (r ∷ rs) = list-leaves (taken b r .bench) sender (number + 1) rs
-
+-- The record at a place of a list's records, whatever its first number.
 rests-record : (b : Bench) (sender number : ℕ) (rs : List (List ℕ)) (k : ℕ) → k < length rs
     → recordAt (runRests b sender number rs .records) k ≡ recordOf sender (taken (leftBy b (take k rs)) (getD rs k []) .told) (number + k)
 unfolding runRests
@@ -191,80 +184,68 @@ module _ (b : Bench) (kit pupil room : List ℕ) (accepted : runOf b kit pupil r
       ∙ drop-at (reportOf b kit pupil) stays end (report-long b kit pupil)
       ∙ ap (λ n. drop n room) (report-long b kit pupil)
 
--- For the theorems below: commands one after another, in two goes.
-left-append : (b : Bench) (xs ys : List (List ℕ)) → leftBy (leftBy b xs) ys ≡ leftBy b (xs ++ ys)
-left-append b [] ys = refl
-left-append b (x ∷ xs) ys = left-append (taken b x .bench) xs ys
-
--- Behind the kit's list.
-kit-then : (b : Bench) (kit : List ℕ) (rs : List (List ℕ)) → leftBy (kitPart b kit .bench) rs ≡ leftBy b (rests kit ++ rs)
-kit-then b kit rs = ap (λ c. leftBy c rs) (list-leaves b 1 1 (rests kit)) ∙ left-append b (rests kit) rs
-
--- What happens to a bench in a run: the kit's commands and then the pupil's, each from its bytes; nothing where the run is refused.
+-- A run told command by command: the kit's and then the pupil's, each an event of its own from its bytes; none where the run is refused.
 abbrev pub commandsOf : List ℕ → List ℕ → List Event
 commandsOf kit pupil = map bytes (rests kit ++ rests pupil)
 
 abbrev pub eventsOf : Bench → List ℕ → List ℕ → List ℕ → List Event
 eventsOf b kit pupil room = cond (eqb (runOf b kit pupil room .code) 0) (commandsOf kit pupil) []
 
--- `Good` is soundness, in any form that carrying out keeps.
-module _ (Good : Bench → Type 0) (sound : (b : Bench) → Good b → benchSound b ≡ true)
-    (keeps : (b : Bench) (s : List ℕ) → Good b → Good (carryOutBytes b s .bench)) where
-  left-after : (b : Bench) → Good b → (rs : List (List ℕ)) → (leftBy b rs ≡ after b (map bytes rs)) × Good (leftBy b rs)
-  left-after b good [] = (refl, good)
-  left-after b good (r ∷ rs) = rw (sound-bytes b r (sound b good)) (left-after (carryOutBytes b r .bench) (keeps b r good) rs)
+-- On a sound bench commands in turn are what carrying them out one after another is.
+left-after : (b : Bench) → GoodBench b → (rs : List (List ℕ)) → leftBy b rs ≡ after b (map bytes rs)
+left-after b good [] = refl
+left-after b good (r ∷ rs) =
+    left-after (taken b r .bench) (taken-good b good r) rs ∙ ap (λ (o : Outcome). after (o .bench) (map bytes rs)) (sound-bytes b r (good .sound))
 
-  module _ (b : Bench) (good : Good b) (kit pupil : List ℕ) where
-    told-after : (rs : List (List ℕ)) (r : List ℕ) → taken (leftBy b rs) r .told ≡ carryOutBytes (after b (map bytes rs)) r .told
-    told-after rs r =
-        let before = left-after b good rs in
-        ap (λ (o : Outcome). o .told) (sound-bytes (leftBy b rs) r (sound (leftBy b rs) (before .1))) ∙ ap (λ c. carryOutBytes c r .told) (before .0)
+takes-after : (test : Role → Bool) (b : Bench) → GoodBench b → (rs : List (List ℕ)) → takesAny test b rs ≡ acceptsAny test b (map bytes rs)
+unfolding carryOutBytes
+takes-after test b good [] = refl
+takes-after test b good (r ∷ rs) =
+    ap (λ later. takes test (taken b r .told .code) (said r) || later) (takes-after test (taken b r .bench) (taken-good b good r) rs)
+    ∙ ap (λ (o : Outcome). takes test (o .told .code) (said r) || acceptsAny test (o .bench) (map bytes rs)) (sound-bytes b r (good .sound))
 
-    both-left : pupilPart b kit pupil .bench ≡ leftBy b (rests kit ++ rests pupil)
-    both-left = list-leaves (kitPart b kit .bench) 2 1 (rests pupil) ∙ kit-then b kit (rests pupil)
+module _ (b : Bench) (good : GoodBench b) (kit pupil : List ℕ) where
+  told-after : (rs : List (List ℕ)) (r : List ℕ) → taken (leftBy b rs) r .told ≡ carryOutBytes (after b (map bytes rs)) r .told
+  told-after rs r =
+      ap (λ (o : Outcome). o .told) (sound-bytes (leftBy b rs) r (left-good b good rs .sound)) ∙ ap (λ c. carryOutBytes c r .told) (left-after b good rs)
 
-    -- Two lists leave exactly the state of carrying out their commands one after another.
-    pub lists-leave : pupilPart b kit pupil .bench ≡ after b (commandsOf kit pupil)
-    lists-leave = both-left ∙ left-after b good (rests kit ++ rests pupil) .0
+  -- Each command's verdict is that of carrying it out in the state that the commands before it left.
+  pub kit-verdict : (k : ℕ) → verdictAt b kit k ≡ carryOutBytes (after b (map bytes (take k (rests kit)))) (restAt kit k) .told
+  kit-verdict k = told-after (take k (rests kit)) (restAt kit k)
 
-    -- Each command's verdict is that of carrying it out in the state that the commands before it left.
-    pub kit-verdict : (k : ℕ) → verdictAt b kit k ≡ carryOutBytes (after b (map bytes (take k (rests kit)))) (restAt kit k) .told
-    kit-verdict k = told-after (take k (rests kit)) (restAt kit k)
+  pub pupil-verdict : (k : ℕ)
+      → verdictAt (kitPart b kit .bench) pupil k ≡ carryOutBytes (after b (map bytes (rests kit ++ take k (rests pupil)))) (restAt pupil k) .told
+  pupil-verdict k =
+      ap (λ c. taken c (restAt pupil k) .told) (kit-then b kit (take k (rests pupil))) ∙ told-after (rests kit ++ take k (rests pupil)) (restAt pupil k)
 
-    pub pupil-verdict : (k : ℕ)
-        → verdictAt (kitPart b kit .bench) pupil k ≡ carryOutBytes (after b (map bytes (rests kit ++ take k (rests pupil)))) (restAt pupil k) .told
-    pupil-verdict k =
-        ap (λ c. taken c (restAt pupil k) .told) (kit-then b kit (take k (rests pupil))) ∙ told-after (rests kit ++ take k (rests pupil)) (restAt pupil k)
+  -- Two lists leave exactly the state of carrying out their commands one after another.
+  pub lists-leave : pupilPart b kit pupil .bench ≡ after b (commandsOf kit pupil)
+  lists-leave = both-left b kit pupil ∙ left-after b good (rests kit ++ rests pupil)
 
-    module _ (room : List ℕ) where
-      -- So a run leaves exactly what its events leave one after another, refused or not.
-      pub run-leaves : runOf b kit pupil room .bench ≡ after b (eventsOf b kit pupil room)
-      unfolding runOf
-      run-leaves = go (eqb (runCode b kit pupil room) 0)
-        where
-          go : (carried : Bool) → cond carried (pupilPart b kit pupil .bench) b ≡ after b (cond carried (commandsOf kit pupil) [])
-          go true = lists-leave
-          go false = refl
+  -- So a run is no more than its commands, refused or not: it leaves what they leave, and accepts what they accept.
+  pub run-leaves : (room : List ℕ) → runOf b kit pupil room .bench ≡ after b (eventsOf b kit pupil room)
+  unfolding runOf
+  run-leaves room = go (eqb (runCode b kit pupil room) 0)
+    where
+      go : (carried : Bool) → cond carried (pupilPart b kit pupil .bench) b ≡ after b (cond carried (commandsOf kit pupil) [])
+      go true = lists-leave
+      go false = refl
 
-      -- It keeps the state good,
-      pub run-good : Good (runOf b kit pupil room .bench)
-      unfolding runOf
-      run-good = go (eqb (runCode b kit pupil room) 0)
-        where
-          go : (carried : Bool) → Good (cond carried (pupilPart b kit pupil .bench) b)
-          go true = rw both-left (left-after b good (rests kit ++ rests pupil) .1)
-          go false = good
+  pub run-accepts : (room : List ℕ) (test : Role → Bool) → accepts test b (run kit pupil room) ≡ acceptsAny test b (eventsOf b kit pupil room)
+  unfolding runOf
+  run-accepts room test = go (eqb (runCode b kit pupil room) 0)
+    where
+      go : (carried : Bool) → (carried && takesAny test b (rests kit ++ rests pupil)) ≡ acceptsAny test b (cond carried (commandsOf kit pupil) [])
+      go true = takes-after test b good (rests kit ++ rests pupil)
+      go false = refl
 
-      -- and from a state that can be reached it leads to one that can be reached.
-      pub run-reaches : Reached b → Reached (runOf b kit pupil room .bench)
-      run-reaches r =
-          record {
-            events = r .events ++ eventsOf b kit pupil room;
-            reached =
-                after-append freshBench (r .events) (eventsOf b kit pupil room)
-                ∙ ap (λ c. after c (eventsOf b kit pupil room)) (r .reached)
-                ∙ sym run-leaves;
-          }
+-- From a state that can be reached a run leads to one that can be reached.
+pub run-reaches : (b : Bench) → Reached b → (kit pupil room : List ℕ) → Reached (runOf b kit pupil room .bench)
+run-reaches b r kit pupil room =
+    record {
+      events = r .events ++ (run kit pupil room ∷ []);
+      reached = after-append freshBench (r .events) (run kit pupil room ∷ []) ∙ ap (λ c. runOf c kit pupil room .bench) (r .reached);
+    }
 
 -- The code of a run is the first of 20, 21 and 27 that is due, and 0 exactly when none is.
 pub run-order : (b : Bench) (kit pupil room : List ℕ) → Order (runChecks b kit pupil room) (runOf b kit pupil room .code)

@@ -1,4 +1,5 @@
--- 01: "A state reached from a fresh one is always sound." A fresh bench is; every command, from bytes or decoded, and every second keep it so.
+-- 01: "A state reached from a fresh one is always sound." A fresh bench is; every command, from bytes or decoded, every second and every run
+-- keep it so.
 use Prim.Native.Nat.{ℕ, _≤_, _<_}
 use mathlib.Core.Path.{_≡_, refl, sym, _∙_, subst}
 use mathlib.Core.Logic.{_⊎_, inl, inr}
@@ -7,7 +8,7 @@ use mathlib.Core.Bool.{Bool, true, false, cond, _&&_}
 use native.Mathlib.Omega.{arith}
 use lib.ListN.{length, drop}
 use lib.Dec.{eqb}
-use borrow.Author.Tests.{eqb-true, eqb-false, le-leb, eq-eqb}
+use borrow.Author.Tests.{eqb-true, eqb-false, le-leb}
 use Rattle.words.proofs.Tests.{both}
 use Rattle.wire.specs.declared.kinds.Command.{Command}
 use Rattle.wire.specs.Codes.{firstOf}
@@ -20,7 +21,7 @@ use Rattle.frame.specs.Answers.{writeCode, roomAfter}
 use Rattle.frame.proofs.Laws.{Ruled, ruled, obeyed}
 use Rattle.camera.specs.Series.{nextHolds}
 use Rattle.camera.specs.Camera.{cameraSecond}
-use Rattle.store.specs.declared.roles.Role.{Role}
+use Rattle.walk.specs.Walk.{rests}
 use Rattle.store.specs.Checks.{permitCode}
 use Rattle.store.specs.Effects.{nextEntry}
 use Rattle.store.specs.Sound.{storeSound}
@@ -29,10 +30,11 @@ use Rattle.store.proofs.Handed.{handed-plainly}
 use Rattle.store.proofs.Status.{marked-is}
 use Rattle.bench.specs.declared.Bench.{Bench}
 use Rattle.bench.specs.Status.{freshBench, statusOf, benchSound, statusAt}
-use Rattle.bench.specs.Carry.{Outcome, outcomeFor, effectOf, commandChecks, carryCode, carryOut, said, bytesChecks, taken, carryBytesCode, carryOutBytes}
+use Rattle.bench.specs.Carry.{outcomeFor, effectOf, commandChecks, carryCode, carryOut, said, bytesChecks, taken, carryBytesCode, carryOutBytes}
 use Rattle.bench.specs.Second.{benchAfter, secondAt}
-use Rattle.bench.specs.Events.{Event, command, bytes, second, afterOne, after, Reached, executes, accepts}
-use Rattle.bench.proofs.Outcomes.{judge-then, read-then, carry-code, carry-bytes-code, sound-bytes}
+use Rattle.bench.specs.Events.{Event, command, bytes, second, run, afterOne, after, Reached}
+use Rattle.bench.proofs.Outcomes.{judge-then, read-then, carry-code, carry-bytes-code}
+use Rattle.bench.proofs.InTurn.{leftBy, by-run}
 use Rattle.bench.proofs.Camera.{GoodCamera, fresh-camera, camera-second, executed-good, handed-good}
 
 -- A sound bench: it passes the test of 27, and its store has 192 slots, eight counts and eight marks, as every store of a program has by its type.
@@ -163,41 +165,44 @@ effect-keeps b good c passed =
       store = applied-keeps (b .store) (h .store) c (passed .judge) (passed .permit);
     })
 
--- On a sound bench a command event does one of two things: it leaves the bench, or its command is accepted and takes effect.
-pub record Takes (b : Bench) (e : Event) (c : Command) : Type 0 where
+-- A command does one of two things: it leaves the bench, or its code is 0, it is accepted and takes effect.
+pub record Takes (b : Bench) (code : ℕ) (c : Command) : Type 0 where
+  pub zero : code ≡ 0
   pub passed : Accepted b c
-  pub told : (test : Role → Bool) → accepts test b e ≡ executes test c
 
-by-code : (P : Bench → Type 0) (b : Bench) (c : Command) (code : ℕ) → P b → (code ≡ 0 → P (effectOf b c)) → P (outcomeFor code b c .bench)
-by-code P b c code stays takes = go (eqb code 0) refl
+by-code : (P : Bench → Type 0) (b : Bench) (c : Command) (code : ℕ) → (code ≡ 0 → Accepted b c)
+    → P b → (Takes b code c → P (effectOf b c)) → P (outcomeFor code b c .bench)
+by-code P b c code passes stays takes = go (eqb code 0) refl
   where
     go : (t : Bool) → eqb code 0 ≡ t → P (outcomeFor code b c .bench)
-    go true e = rw e (takes (eqb-true code 0 e))
+    go true e =
+        let zero = eqb-true code 0 e in
+        rw e (takes (record { zero = zero; passed = passes zero }))
     go false e = rw e stays
 
 pub by-command : (P : Bench → Type 0) (b : Bench) → GoodBench b → (c : Command)
-    → P b → (Takes b (command c) c → P (effectOf b c)) → P (afterOne b (command c))
+    → P b → (Takes b (carryCode b c) c → P (effectOf b c)) → P (carryOut b c .bench)
 unfolding carryOut
-by-command P b good c stays takes = by-code P b c (carryCode b c) stays (λ zero. takes (taken zero))
-  where
-    taken : carryCode b c ≡ 0 → Takes b (command c) c
-    taken zero =
-        record {
-          passed = judge-accepted b c (judge-then b c ∙ sym (carry-code b c (good .sound)) ∙ zero);
-          told = λ test. rw (eq-eqb (carryCode b c) 0 zero);
-        }
+by-command P b good c = by-code P b c (carryCode b c) (λ zero. judge-accepted b c (judge-then b c ∙ sym (carry-code b c (good .sound)) ∙ zero))
 
 pub by-bytes : (P : Bench → Type 0) (b : Bench) → GoodBench b → (s : List ℕ)
-    → P b → (Takes b (bytes s) (said s) → P (effectOf b (said s))) → P (afterOne b (bytes s))
+    → P b → (Takes b (carryBytesCode b s) (said s) → P (effectOf b (said s))) → P (carryOutBytes b s .bench)
 unfolding carryOutBytes
-by-bytes P b good s stays takes = by-code P b (said s) (carryBytesCode b s) stays (λ zero. takes (taken zero))
-  where
-    taken : carryBytesCode b s ≡ 0 → Takes b (bytes s) (said s)
-    taken zero =
-        record {
-          passed = read-accepted b s (sym (carry-bytes-code b s (good .sound)) ∙ zero);
-          told = λ test. rw (eq-eqb (carryBytesCode b s) 0 zero);
-        }
+by-bytes P b good s = by-code P b (said s) (carryBytesCode b s) (λ zero. read-accepted b s (sym (carry-bytes-code b s (good .sound)) ∙ zero))
+
+-- The same of a command as a run takes it.
+pub by-taken : (P : Bench → Type 0) (b : Bench) (s : List ℕ)
+    → P b → (Takes b (taken b s .told .code) (said s) → P (effectOf b (said s))) → P (taken b s .bench)
+unfolding taken
+by-taken P b s = by-code P b (said s) (firstOf (bytesChecks b s)) (read-accepted b s)
+
+-- So every command that a run takes keeps a bench sound, and several in turn do.
+pub taken-good : (b : Bench) → GoodBench b → (s : List ℕ) → GoodBench (taken b s .bench)
+taken-good b good s = by-taken GoodBench b s good (λ t. effect-keeps b good (said s) (t .passed))
+
+pub left-good : (b : Bench) → GoodBench b → (rs : List (List ℕ)) → GoodBench (leftBy b rs)
+left-good b good [] = good
+left-good b good (r ∷ rs) = left-good (taken b r .bench) (taken-good b good r) rs
 
 -- A second of a sound bench: what is handed over is plain and in range, so the camera may execute it.
 pub second-is : (b : Bench) → GoodBench b → secondAt b .bench ≡ benchAfter b
@@ -218,10 +223,7 @@ pub event-keeps : (b : Bench) → GoodBench b → (e : Event) → GoodBench (aft
 event-keeps b good (command c) = by-command GoodBench b good c good (λ t. effect-keeps b good c (t .passed))
 event-keeps b good (bytes s) = by-bytes GoodBench b good s good (λ t. effect-keeps b good (said s) (t .passed))
 event-keeps b good second = subst GoodBench (sym (second-is b good)) (second-sound b good)
-
--- The command at the front of some bytes keeps it too, as a run carries it out.
-pub taken-good : (b : Bench) → GoodBench b → (s : List ℕ) → GoodBench (taken b s .bench)
-taken-good b good s = subst (λ (o : Outcome). GoodBench (o .bench)) (sym (sound-bytes b s (good .sound))) (event-keeps b good (bytes s))
+event-keeps b good (run kit pupil room) = by-run GoodBench b kit pupil room good (λ zero. left-good b good (rests kit ++ rests pupil))
 
 pub after-keeps : (b : Bench) → GoodBench b → (es : List Event) → GoodBench (after b es)
 after-keeps b good [] = good

@@ -2,7 +2,7 @@
 -- both lists, the pupil's put behind the kit's, are the report put as one.
 use Prim.Native.Nat.{ℕ, _+_, _*_, _-_, _≤_}
 use mathlib.Core.Path.{_≡_, refl, sym, ap, _∙_}
-use mathlib.Core.List.{List, [], _∷_, _++_}
+use mathlib.Core.List.{List, _++_}
 use mathlib.Core.Bool.{false}
 use native.Mathlib.Omega.{arith}
 use lib.ListN.{length, take, drop, length-append, length-drop}
@@ -16,18 +16,15 @@ use Rattle.walk.proofs.Turns.{from-place}
 use Rattle.bench.specs.declared.Bench.{Bench}
 use Rattle.bench.specs.declared.lists.Ran.{Ran}
 use Rattle.bench.specs.declared.lists.Begun.{Begun}
-use Rattle.bench.specs.Carry.{taken}
 use Rattle.bench.specs.Run.{runRests, runList, kitPart, pupilPart, runCode, begunCode, ranOf, runOf, roomAfter}
 use Rattle.bench.specs.Steps.{refusedWith}
-use Rattle.bench.proofs.Sound.{GoodBench, taken-good}
+use Rattle.bench.proofs.InTurn.{list-leaves}
+use Rattle.bench.proofs.Sound.{GoodBench, left-good}
 use Rattle.bench.proofs.Listing.{records-long, written-both}
 
 -- A list keeps a bench sound.
 pub list-keeps : (b : Bench) → GoodBench b → (sender number : ℕ) (rs : List (List ℕ)) → GoodBench (runRests b sender number rs .bench)
-unfolding runRests
-list-keeps b good sender number [] = good
-list-keeps b good sender number (r ∷ rs) =
-    list-keeps (taken b r .bench) (taken-good b good r) sender (number + 1) rs
+list-keeps b good sender number rs = rw (list-leaves b sender number rs) (left-good b good rs)
 
 module _ (b : Bench) (kit pupil room : List ℕ) where
   -- What a run promises of its answer and of its room afterwards.

@@ -1,28 +1,31 @@
--- What can happen to a bench, one thing after another: commands, decoded or from bytes, and seconds. A run of two lists is the sequence of
--- its commands from bytes.
+-- What can happen to a bench, one thing after another: commands, decoded or from bytes, seconds, and runs of two lists.
 use Prim.Native.Nat.{ℕ, zero, suc}
 use mathlib.Core.Path.{_≡_}
-use mathlib.Core.List.{List, [], _∷_}
+use mathlib.Core.List.{List, [], _∷_, _++_}
 use mathlib.Core.Bool.{Bool, true, false, not, _&&_, _||_}
 use lib.Dec.{eqb}
 use Rattle.wire.specs.declared.kinds.Command.{Command}
+use Rattle.walk.specs.Walk.{rests}
 use Rattle.store.specs.declared.roles.Role.{Role}
 use Rattle.store.specs.Roles.{roleOf}
 use Rattle.bench.specs.declared.Bench.{Bench}
 use Rattle.bench.specs.Status.{freshBench}
-use Rattle.bench.specs.Carry.{said, carryCode, carryBytesCode, carryOut, carryOutBytes}
+use Rattle.bench.specs.Carry.{said, taken, carryCode, carryBytesCode, carryOut, carryOutBytes}
 use Rattle.bench.specs.Second.{secondAt}
+use Rattle.bench.specs.Run.{runCode, runOf}
 
 pub data Event : Type 0 where
   command : Command → Event
   bytes : List ℕ → Event
   second : Event
+  run : (kit pupil room : List ℕ) → Event
 
 -- The bench after one event, and after several.
 abbrev pub afterOne : Bench → Event → Bench
 afterOne b (command c) = carryOut b c .bench
 afterOne b (bytes s) = carryOutBytes b s .bench
 afterOne b second = secondAt b .bench
+afterOne b (run kit pupil room) = runOf b kit pupil room .bench
 
 abbrev pub after : Bench → List Event → Bench
 after b [] = b
@@ -33,12 +36,13 @@ pub record Reached (b : Bench) : Type 0 where
   pub events : List Event
   pub reached : after freshBench events ≡ b
 
--- How many seconds pass.
+-- How many seconds pass: none in a run.
 abbrev pub secondsIn : List Event → ℕ
 secondsIn [] = zero
 secondsIn (command c ∷ es) = secondsIn es
 secondsIn (bytes s ∷ es) = secondsIn es
 secondsIn (second ∷ es) = suc (secondsIn es)
+secondsIn (run kit pupil room ∷ es) = secondsIn es
 
 abbrev pub isStop : Role → Bool
 isStop Role.Plain = false
@@ -53,11 +57,21 @@ isStop Role.Clear = false
 abbrev pub executes : (Role → Bool) → Command → Bool
 executes test c = not (c .flag) && test (roleOf (c .kind))
 
--- Does this event bring a command that executes such a role, and is it accepted?
+-- Is it, and did it get code 0?
+abbrev pub takes : (Role → Bool) → ℕ → Command → Bool
+takes test code c = eqb code 0 && executes test c
+
+-- Does one of the commands of a run? Each is given as it finds its list, and taken on the bench that the ones before it left.
+abbrev pub takesAny : (Role → Bool) → Bench → List (List ℕ) → Bool
+takesAny test b [] = false
+takesAny test b (r ∷ rs) = takes test (taken b r .told .code) (said r) || takesAny test (taken b r .bench) rs
+
+-- Does this event bring a command that executes such a role, and is it accepted? A run that is refused brings none.
 abbrev pub accepts : (Role → Bool) → Bench → Event → Bool
-accepts test b (command c) = eqb (carryCode b c) 0 && executes test c
-accepts test b (bytes s) = eqb (carryBytesCode b s) 0 && executes test (said s)
+accepts test b (command c) = takes test (carryCode b c) c
+accepts test b (bytes s) = takes test (carryBytesCode b s) (said s)
 accepts test b second = false
+accepts test b (run kit pupil room) = eqb (runCode b kit pupil room) 0 && takesAny test b (rests kit ++ rests pupil)
 
 -- Is one accepted meanwhile?
 abbrev pub acceptsAny : (Role → Bool) → Bench → List Event → Bool

@@ -1,7 +1,8 @@
--- The bench: its status, soundness, what carrying out a command and a second do, the run of two lists. `Steps` comes last, being the code's alone.
+-- The bench: its status, soundness, what carrying out a command, a second and a run of two lists do, and what can happen to it, one thing after another.
+-- `Steps` comes last, being the code's alone.
 pub mod Status
 pub mod Carry
 pub mod Second
-pub mod Events
 pub mod Run
+pub mod Events
 pub mod Steps
