@@ -1,83 +1,100 @@
--- The three demands, of the meanings that the promises in src/lib.rt name: `carry_out` answers `carryOut`, `carry_out_bytes` `carryOutBytes`,
--- `second` `secondAt` and `status` `statusAt` (specs/Carry, Second, Status). What can happen to a bench is a list of events (specs/Events).
--- Read the statements here; what they rest on is proved in Rows, Sound, MacroRun and Report.
-use Prim.Native.Nat.{ℕ, _+_, _-_, _≤_, _<_}
+-- The three demands, whole and word for word, and under every sentence the theorem that carries it. The theorems speak of the meanings that the promises in
+-- src/ name: what `carry_out` answers is `carryOut`, `carry_out_bytes` `carryOutBytes`, `second` `secondAt`, `status` `statusAt`, and `run` `runOf` with the
+-- room `roomAfter` (specs/Carry, Second, Status, Run). What can happen to a bench is a list of events: commands, seconds and runs (specs/Events).
+-- Read the statements here; what they rest on is proved in Rows, Parameter, Back, Sound, MacroRun and Report.
+use Prim.Native.Nat.{ℕ, _+_, _*_, _-_, _≤_, _<_}
 use mathlib.Core.Path.{_≡_, refl, sym, _∙_}
-use mathlib.Core.Logic.{_≢_}
+use mathlib.Core.Logic.{_↔_, _≢_}
 use mathlib.Core.List.{List, [], _∷_, _++_, map}
-use mathlib.Core.Bool.{Bool, true, false, cond}
+use mathlib.Core.Bool.{Bool, true, false, cond, not}
 use native.Mathlib.Omega.{arith}
 use lib.ListN.{length, getD, take, drop}
 use lib.Dec.{ltb}
 use borrow.Author.Tests.{ne-eqb}
-use Rattle.words.specs.BigEndian.{byteAt, halfAt}
+use Rattle.words.specs.BigEndian.{byteAt, halfAt, hasRoom, written}
 use Rattle.wire.specs.declared.kinds.Kind.{Kind}
 use Rattle.wire.specs.declared.kinds.Command.{Command}
 use Rattle.wire.specs.declared.decoding.Reading.{Reading}
+use Rattle.wire.specs.Codes.{_when_}
 use Rattle.wire.specs.Judge.{toldWith}
-use Rattle.wire.specs.Read.{answerOf, readOf}
-use Rattle.wire.proofs.Order.{Order}
+use Rattle.wire.specs.Read.{lengthOf, answerOf, readChecks, readOf}
+use Rattle.wire.specs.Write as writing
+use Rattle.wire.proofs.Order.{NoneDue, Order, read-order, write-order}
+use Rattle.wire.proofs.Front.{Bytes}
+use Rattle.wire.proofs.RoundTrip.{Held}
+use Rattle.wire.proofs.Calls as commands
+use Rattle.frame.specs.declared.Frame.{Frame}
 use Rattle.frame.specs.Bytes.{frameBytes}
 use Rattle.frame.specs.Answers as frames
+use Rattle.frame.proofs.Order as frame-order
 use Rattle.frame.proofs.Answers.{takenAs}
 use Rattle.frame.proofs.RoundTrip.{running-byte, left-bytes, read-written}
+use Rattle.frame.proofs.Calls as frame-calls
+use Rattle.report.specs.Record.{putCode}
+use Rattle.report.proofs.Calls.{refused-put}
 use Rattle.walk.specs.Walk.{rests}
 use Rattle.walk.specs.Shown.{listOf, shownOf}
+use Rattle.store.specs.declared.roles.Role.{Role}
 use Rattle.store.specs.Roles.{isRun}
 use Rattle.store.specs.Slots.{isClosed}
 use Rattle.store.specs.WrittenOut.{writtenOut}
 use Rattle.store.proofs.Running.{RunOf, closed-lasts}
 use Rattle.bench.specs.declared.Bench.{Bench}
-use Rattle.bench.specs.Status.{freshBench, statusOf, benchSound, statusAt}
-use Rattle.bench.specs.Carry.{Outcome, effectOf, commandChecks, carryCode, carryOut, bytesChecks, carryBytesCode, carryOutBytes}
+use Rattle.bench.specs.Status.{freshBench, statusOf, benchSound, soundCheck, statusAt}
+use Rattle.bench.specs.Carry.{Outcome, effectOf, commandChecks, carryCode, carryOut, said, bytesChecks, taken, carryBytesCode, carryOutBytes}
 use Rattle.bench.specs.Second.{secondAt}
 use Rattle.bench.specs.Run.{runChecks, runOf, roomAfter}
-use Rattle.bench.specs.Events.{Event, bytes, second, afterOne, after, Reached, secondsIn, isStop, acceptsAny}
-use Rattle.bench.proofs.Rows.{command-order, bytes-order, command-most, bytes-most, command-unsound, bytes-unsound}
-use Rattle.bench.proofs.Sound.{GoodBench, good-store, fresh-sound, event-keeps, after-keeps, reached-sound}
+use Rattle.bench.specs.Events.{Event, bytes, second, run, afterOne, after, Reached, secondsIn, isStop, takesAny, accepts, acceptsAny}
+use Rattle.bench.proofs.Rows as rows
+use Rattle.bench.proofs.Parameter.{firstHolds, secondHolds, Names, command-names, bytes-names}
+use Rattle.bench.proofs.Back.{command-again, frame-again}
+use Rattle.bench.proofs.InTurn.{leftBy}
+use Rattle.bench.proofs.Sound.{GoodBench, good-store, left-good, fresh-sound, event-keeps, after-keeps, reached-sound}
 use Rattle.bench.proofs.Sound.{second-answers, status-answers, status-rules, status-written}
-use Rattle.bench.proofs.MacroRun.{runCommand, stays-idle, idle-hands, run-begins, run-accepted, run-accepted-bytes, begun-sound}
-use Rattle.bench.proofs.Outcomes.{sound-bytes}
-use Rattle.bench.proofs.Report.{Carries, restAt, recordAt, eventsOf, Untouched, record-carries, kit-record, pupil-record, kit-verdict, pupil-verdict}
-use Rattle.bench.proofs.Report.{run-leaves, run-reaches, run-order, refused-leaves, shown-judged}
+use Rattle.bench.proofs.MacroRun.{runCommand, stays-idle, idle-hands, run-begins, run-accepted, run-accepted-bytes, begun-sound, run-begins-within}
 use Rattle.bench.proofs.MacroRun.{now-runs, now-hands, next-says, next-idle}
+use Rattle.bench.proofs.Outcomes.{sound-bytes}
+use Rattle.bench.proofs.Report.{Carries, restAt, recordAt, eventsOf, Untouched, record-carries, kit-record, pupil-record}
+use Rattle.bench.proofs.Report.{kit-verdict, pupil-verdict, run-leaves, run-accepts, run-reaches, refused-leaves, shown-judged}
 
--- ## Soundness
+-- # Demand 1
 
--- "A state reached from a fresh one is always sound": a fresh bench is, each event (a command, decoded or from bytes, a second, a run) keeps it, and so
--- every reached bench is. (`GoodBench b`: the test of 27 passes, and the arrays of the store have their lengths, as every program's have.)
-pub fresh-is-sound : GoodBench freshBench
-fresh-is-sound = fresh-sound
+-- "No list, frame or state makes the code misbehave or run on."
+-- The prover itself gives this: every function of src/ has been proved to end and to be free of faults on every input of its type, for no public one has a
+-- `requires`.
 
-pub events-keep-soundness : (b : Bench) → GoodBench b → (e : Event) → GoodBench (afterOne b e)
-events-keep-soundness b good e = event-keeps b good e
+-- "Every entry point judges its own input;"
+-- Each call that may refuse tries a list of checks on its own input, and `Order` (wire, proofs/Order) says that its code is that of the first check that is
+-- due, and 0 exactly when none is. Carrying out tries 27 first, and then the rows of demand 2.
+pub record Judges : Type 0 where
+  pub read-command : (s : List ℕ) → Order (readChecks s) (readOf s .told .code)
+  pub write-command : (c : Command) (room : List ℕ) → Order (writing.writeChecks c room) (writing.wroteAt c room .told .code)
+  pub read-frame : (s : List ℕ) → Order (frames.readChecks s) (frames.readOf s .code)
+  pub write-frame : (f : Frame) (room : List ℕ) → Order (frames.writeChecks f room) (frames.writeCode f room)
+  pub put-record : (record-bytes room : List ℕ) → Order (24 when not (hasRoom record-bytes room) ∷ []) (putCode record-bytes room)
+  pub second : (b : Bench) → Order (soundCheck b ∷ []) (secondAt b .told .code)
+  pub status : (b : Bench) → Order (soundCheck b ∷ []) (statusAt b .code)
+  pub run : (b : Bench) (kit pupil room : List ℕ) → Order (runChecks b kit pupil room) (runOf b kit pupil room .code)
+  pub carry-out : (b : Bench) → benchSound b ≡ false → (c : Command) → carryOut b c .told .code ≡ 27
+  pub carry-out-bytes : (b : Bench) → benchSound b ≡ false → (s : List ℕ) → carryOutBytes b s .told .code ≡ 27
 
-pub reached-is-sound : (b : Bench) → Reached b → GoodBench b
-reached-is-sound b r = reached-sound b r
-
--- On a sound bench no call answers 27, and the status is a frame that the writer takes and the reader gives back.
-pub record Answers (b : Bench) : Type 0 where
-  pub command : (c : Command) → carryOut b c .told .code ≢ 27
-  pub bytes : (s : List ℕ) → carryOutBytes b s .told .code ≢ 27
-  pub second : secondAt b .told .code ≡ 0
-  pub status : statusAt b ≡ record { code = 0; shown = statusOf b ∷ [] }
-  pub written : (room : List ℕ) → 32 ≤ length room
-      → (frames.writeCode (statusOf b) room ≡ 0) × (frames.roomAfter (statusOf b) room ≡ frameBytes (statusOf b) ++ drop 32 room)
-  pub read-back : frames.readOf (frameBytes (statusOf b)) ≡ takenAs (statusOf b)
-
-pub sound-answers : (b : Bench) → GoodBench b → Answers b
-sound-answers b good =
+pub demand-1-judges : Judges
+unfolding readOf writing.wroteAt frames.readOf
+demand-1-judges =
     record {
-      command = λ c e. omega (arith, command-most b (good .sound) c);
-      bytes = λ s e. omega (arith, bytes-most b (good .sound) s);
-      second = second-answers b good;
-      status = status-answers b good;
-      written = status-written b good;
-      read-back = read-written (statusOf b) (status-rules b good);
+      read-command = read-order;
+      write-command = write-order;
+      read-frame = frame-order.read-order;
+      write-frame = frame-order.write-order;
+      put-record = rows.put-order;
+      second = rows.second-order;
+      status = rows.status-order;
+      run = rows.run-order;
+      carry-out = rows.command-unsound;
+      carry-out-bytes = rows.bytes-unsound;
     }
 
--- ## Demand 1: "a refused command leaves the bench as it was"
-
+-- "a refused command leaves the bench as it was,"
 -- On any bench, sound or not, a code other than 0 leaves the bench equal.
 pub demand-1-command : (b : Bench) (c : Command) → carryOut b c .told .code ≢ 0 → carryOut b c .bench ≡ b
 unfolding carryOut
@@ -96,22 +113,112 @@ demand-1-second b refused = go (benchSound b) refl
     go true e = absurd (refused (rw e))
     go false e = (rw e, rw e)
 
--- ## Demand 2: "the one code that stands first in the order of checks"
+-- A run that is refused leaves the bench and its room, with counts of zero.
+pub demand-1-run : (b : Bench) (kit pupil room : List ℕ) → runOf b kit pupil room .code ≢ 0 → Untouched b kit pupil room
+demand-1-run b kit pupil room refused = refused-leaves b kit pupil room refused
 
--- On a sound bench the code is n exactly when row n holds and no row tried before it does, and 0 exactly when none holds: that is what `Order` says of
--- a list of rows and a code (wire, proofs/Order). `commandChecks` are rows 8 to 19 in their order, and `bytesChecks` rows 1 to 19.
+-- "and a refused call writes nothing into lent memory."
+-- Beside the run there are three calls that write: `write_command`, `write_frame` and `put_record`, whose room is then `written` with the record's bytes.
+pub demand-1-write-command : (c : Command) (room : List ℕ) → writing.wroteAt c room .told .code ≢ 0 → writing.roomAfter c room ≡ room
+unfolding writing.wroteAt
+demand-1-write-command c room refused = commands.refused-write c room refused
+
+pub demand-1-write-frame : (f : Frame) (room : List ℕ) → frames.writeCode f room ≢ 0 → frames.roomAfter f room ≡ room
+demand-1-write-frame f room refused = frame-calls.refused-write f room refused
+
+pub demand-1-put-record : (record-bytes room : List ℕ) → putCode record-bytes room ≢ 0 → written record-bytes room ≡ room
+demand-1-put-record record-bytes room refused = refused-put record-bytes room refused
+
+-- # Demand 2
+
+-- "A command is taken exactly when the CRISP guide's tables and our rules allow it."
+-- `commandChecks` are rows 8 to 19 in their order, and `bytesChecks` rows 1 to 19; the guide's tables are in wire, specs/Table. On a sound bench a command is
+-- accepted and takes its effect exactly when no row holds. (Every bench that can be reached is sound: see the end of this file.)
+pub demand-2-taken : (b : Bench) → benchSound b ≡ true → (c : Command)
+    → (carryOut b c ≡ record { told = toldWith 0 0; bench = effectOf b c }) ↔ NoneDue (commandChecks b c)
+demand-2-taken b sound c = rows.command-taken b sound c
+
+pub demand-2-taken-bytes : (b : Bench) → benchSound b ≡ true → (s : List ℕ)
+    → (carryOutBytes b s ≡ record { told = toldWith 0 0; bench = effectOf b (said s) }) ↔ NoneDue (bytesChecks b s)
+demand-2-taken-bytes b sound s = rows.bytes-taken b sound s
+
+-- "Otherwise it gets the one code that stands first in the order of checks,"
+-- On a sound bench the code is n exactly when row n holds and no row tried before it does; on any other bench it is 27 (`demand-1-judges`).
 pub demand-2-command : (b : Bench) → benchSound b ≡ true → (c : Command) → Order (commandChecks b c) (carryOut b c .told .code)
-demand-2-command b sound c = command-order b sound c
+demand-2-command b sound c = rows.command-order b sound c
 
 pub demand-2-bytes : (b : Bench) → benchSound b ≡ true → (s : List ℕ) → Order (bytesChecks b s) (carryOutBytes b s .told .code)
-demand-2-bytes b sound s = bytes-order b sound s
+demand-2-bytes b sound s = rows.bytes-order b sound s
 
--- Row 27 is tried before all others: every command gets it where the bench is not sound.
-pub demand-2-unsound : (b : Bench) → benchSound b ≡ false
-    → ((c : Command) → carryOut b c .told .code ≡ 27) × ((s : List ℕ) → carryOutBytes b s .told .code ≡ 27)
-demand-2-unsound b e = (command-unsound b e, bytes-unsound b e)
+-- The parameter beside it is 1 or 2 exactly with code 8, 2 only where the first argument is in range, and else 0: that is `Names`.
+pub demand-2-parameter : (b : Bench) (c : Command) → Names (firstHolds c) (secondHolds c) (carryOut b c .told)
+demand-2-parameter b c = command-names b c
 
--- ## Demand 3: a closed macro, started on an idle bench
+pub demand-2-parameter-bytes : (b : Bench) (s : List ℕ) → Names (firstHolds (said s)) (secondHolds (said s)) (carryOutBytes b s .told)
+demand-2-parameter-bytes b s = bytes-names b s
+
+-- "with the sender's own line number."
+-- In the room after a run that was carried out, record k + 1 of a sender carries that sender, the verdict on the command at place k of that sender's own list,
+-- as carrying it out gives it in the state that the commands before it left, and the number k + 1.
+pub demand-2-kit : (b : Bench) → GoodBench b → (kit pupil room : List ℕ) → runOf b kit pupil room .code ≡ 0 → (k : ℕ) → k < length (rests kit)
+    → Carries (recordAt (roomAfter b kit pupil room) k) 1 (carryOutBytes (after b (map bytes (take k (rests kit)))) (restAt kit k) .told) (k + 1)
+demand-2-kit b good kit pupil room accepted k there =
+    rw (kit-record b kit pupil room accepted k there, kit-verdict b good kit pupil k)
+    (record-carries 1 (carryOutBytes (after b (map bytes (take k (rests kit)))) (restAt kit k) .told) (k + 1))
+
+pub demand-2-pupil : (b : Bench) → GoodBench b → (kit pupil room : List ℕ) → runOf b kit pupil room .code ≡ 0 → (k : ℕ) → k < length (rests pupil)
+    → Carries (recordAt (roomAfter b kit pupil room) (length (rests kit) + k)) 2
+    (carryOutBytes (after b (map bytes (rests kit ++ take k (rests pupil)))) (restAt pupil k) .told) (k + 1)
+demand-2-pupil b good kit pupil room accepted k there =
+    rw (pupil-record b kit pupil room accepted k there, pupil-verdict b good kit pupil k)
+    (record-carries 2 (carryOutBytes (after b (map bytes (rests kit ++ take k (rests pupil)))) (restAt pupil k) .told) (k + 1))
+
+-- So the parameter byte of every record, byte 2, says what it says of that command, with the code in byte 1.
+abbrev RecordNames : List ℕ → List ℕ → Type 0
+RecordNames record-bytes s = Names (firstHolds (said s)) (secondHolds (said s)) (toldWith (byteAt record-bytes 1) (byteAt record-bytes 2))
+
+pub demand-2-parameter-kit : (b : Bench) → GoodBench b → (kit pupil room : List ℕ) → runOf b kit pupil room .code ≡ 0
+    → (k : ℕ) → k < length (rests kit) → RecordNames (recordAt (roomAfter b kit pupil room) k) (restAt kit k)
+demand-2-parameter-kit b good kit pupil room accepted k there =
+    let carries = demand-2-kit b good kit pupil room accepted k there in
+    rw (carries .code, carries .par) (bytes-names (after b (map bytes (take k (rests kit)))) (restAt kit k))
+
+pub demand-2-parameter-pupil : (b : Bench) → GoodBench b → (kit pupil room : List ℕ) → runOf b kit pupil room .code ≡ 0
+    → (k : ℕ) → k < length (rests pupil) → RecordNames (recordAt (roomAfter b kit pupil room) (length (rests kit) + k)) (restAt pupil k)
+demand-2-parameter-pupil b good kit pupil room accepted k there =
+    let carries = demand-2-pupil b good kit pupil room accepted k there in
+    rw (carries .code, carries .par) (bytes-names (after b (map bytes (rests kit ++ take k (rests pupil)))) (restAt pupil k))
+
+-- The bytes shown for a sender and number are the very bytes that the record judged: alone they get the same verdict and leave the same bench.
+pub demand-2-shown : (kit pupil : List ℕ) → length kit ≤ 4096 → length pupil ≤ 4096 → (b : Bench) → benchSound b ≡ true → (sender k : ℕ)
+    → carryOutBytes b (shownOf kit pupil sender (k + 1)) ≡ carryOutBytes b (restAt (listOf kit pupil sender) k)
+demand-2-shown kit pupil kit-short pupil-short b sound sender k =
+    sym (sound-bytes b (shownOf kit pupil sender (k + 1)) sound)
+    ∙ shown-judged kit pupil kit-short pupil-short b sender k
+    ∙ sound-bytes b (restAt (listOf kit pupil sender) k) sound
+
+-- "Commands and status frames can be written as well as read, and come back equal."
+-- A command that was written is read back from the room, whatever stands behind it. (`Held`, `Bytes`: numbers within their widths, as every program's are.)
+pub demand-2-command-back : (c : Command) → Held c → (room : List ℕ) → writing.wroteAt c room .told .code ≡ 0
+    → readOf (writing.roomAfter c room) ≡ answerOf (Reading.Taken c)
+unfolding writing.wroteAt
+demand-2-command-back c held room done = commands.write-then-read c held room done
+
+-- A command that was read is written as the 4L bytes that it was read from, into any room that has so many, and the rest of the room stays.
+pub demand-2-command-again : (s : List ℕ) → Bytes s → (c : Command) → readOf s ≡ answerOf (Reading.Taken c) → (room : List ℕ) → lengthOf s * 4 ≤ length room
+    → (writing.wroteAt c room ≡ record { told = toldWith 0 0; bytes = lengthOf s * 4 })
+    × (writing.roomAfter c room ≡ take (lengthOf s * 4) s ++ drop (lengthOf s * 4) room)
+demand-2-command-again s are c read room enough = command-again s are c read room enough
+
+-- The same of frames: written, the first 32 bytes of the room read as the frame; read, it is written as the same 32 bytes.
+pub demand-2-frame-back : (f : Frame) (room : List ℕ) → frames.writeCode f room ≡ 0 → frames.readOf (take 32 (frames.roomAfter f room)) ≡ takenAs f
+demand-2-frame-back f room done = frame-calls.write-then-read f room done
+
+pub demand-2-frame-again : (s : List ℕ) → Bytes s → (f : Frame) → frames.readOf s ≡ takenAs f → (room : List ℕ) → 32 ≤ length room
+    → (frames.writeCode f room ≡ 0) × (frames.roomAfter f room ≡ s ++ drop 32 room)
+demand-2-frame-again s are f read room enough = frame-again s are f read room enough
+
+-- # Demand 3
 
 -- What a bench says, and the bytes of the status frame that it shows: macro m runs, or none where m is 255, and n seconds are left.
 pub record Says (b : Bench) (m n : ℕ) : Type 0 where
@@ -131,7 +238,7 @@ pub record Idle (b : Bench) : Type 0 where
   pub says : Says b 255 0
   pub hands : Hands b []
 
--- The events between a start and second k, with no STOP accepted among them. Every other command may be there, accepted or refused.
+-- The events between a start and second k, with no STOP accepted among them. Every other command may be there, accepted or refused, and every run.
 pub record UpTo (k : ℕ) (start : Bench) (es : List Event) : Type 0 where
   pub seconds : secondsIn es + 1 ≡ k
   pub no-stop : acceptsAny isStop start es ≡ false
@@ -142,22 +249,23 @@ entry w k = getD w (k - 1) []
 
 -- What is demanded of a run of macro m, whose written-out list was w as it started.
 pub record Demand3 (m : ℕ) (w : List (List Kind)) (start : Bench) : Type 0 where
-  -- "The length is between 1 and 600 seconds"
+  -- "Unless a stop command is accepted meanwhile, second k hands over entry k of its written-out list, whichever other commands arrive between the seconds."
+  pub hands : (k : ℕ) (es : List Event) → UpTo k start es → k ≤ length w → Hands (after start es) (entry w k)
+  -- "It is busy until that list has ended," up to second k it runs, and the seconds from k on are left.
+  pub busy : (k : ℕ) (es : List Event) → UpTo k start es → k ≤ length w → Says (after start es) m (length w - (k - 1))
+  -- "then idle until a macro is started again." Whatever events follow the last second, STOPs too, as long as no RUN is accepted.
+  pub idle : (es : List Event) → UpTo (length w) start es → let last = after start (es ++ (second ∷ [])) in
+      (later : List Event) → acceptsAny isRun last later ≡ false → Idle (after last later)
+  -- "The length is between 1 and 600 seconds,"
   pub least : 1 ≤ length w
   pub most : length w ≤ 600
-  -- "second k hands over entry k of its written-out list, whichever other commands arrive between the seconds"
-  pub hands : (k : ℕ) (es : List Event) → UpTo k start es → k ≤ length w → Hands (after start es) (entry w k)
-  -- "It is busy until that list has ended": up to second k it runs, and the seconds from k on are left.
-  pub busy : (k : ℕ) (es : List Event) → UpTo k start es → k ≤ length w → Says (after start es) m (length w - (k - 1))
-  -- "the seconds left in the status frame, taken as second k ends, are that length less k, for k up to it": m runs, or none once the list has ended.
+  -- "and the seconds left in the status frame, taken as second k ends, are that length less k, for k up to it." m runs, or none once the list has ended.
   pub ends : (k : ℕ) (es : List Event) → UpTo k start es → k ≤ length w
       → Says (after start (es ++ (second ∷ []))) (cond (ltb k (length w)) m 255) (length w - k)
-  -- "then idle until a macro is started again": whatever events follow the last second, STOPs too, as long as no RUN is accepted.
-  pub idle : (es : List Event) → UpTo (length w) start es
-      → (later : List Event) → acceptsAny isRun (after start (es ++ (second ∷ []))) later ≡ false → Idle (after (after start (es ++ (second ∷ []))) later)
 
--- Demand 3, whole. The bench is any that is reached, idle, with macro m closed. Then RUN m is accepted, as a decoded command (`runCommand m`: flag 0, RUN m)
--- and from any bytes that read as it, and the bench that comes back runs m's written-out list as demanded.
+-- "Start a closed macro on an idle bench in any state reached from a fresh one, however deeply it starts others."
+-- The bench is any that is reached, idle, with macro m closed, whatever m's entries start. Then RUN m is accepted, as a decoded command (`runCommand m`:
+-- flag 0, RUN m) and from any bytes that read as it, and the bench that comes back runs m's written-out list as demanded.
 pub record Started (m : ℕ) (w : List (List Kind)) (outcome : Outcome) : Type 0 where
   pub accepted : outcome .told .code ≡ 0
   pub run : Demand3 m w (outcome .bench)
@@ -181,26 +289,26 @@ idles b good free =
     }
 
 runs : (m : ℕ) (w : List (List Kind)) (start : Bench) → GoodBench start → RunOf m w 0 (start .store) → length w ≤ 600 → Demand3 m w start
-runs m w start good run short =
+runs m w start good going short =
     record {
-      least = run .going;
+      least = going .going;
       most = short;
       hands = λ k es up within.
           record {
             code = second-answers (after start es) (after-keeps start good es);
-            handed = now-hands m w start good run es k (up .seconds) (up .no-stop) within;
+            handed = now-hands m w start good going es k (up .seconds) (up .no-stop) within;
           };
       busy = λ k es up within.
-          let now = now-runs m w start good run es k (up .seconds) (up .no-stop) within in
+          let now = now-runs m w start good going es k (up .seconds) (up .no-stop) within in
           says (after start es) (after-keeps start good es) m (length w - (k - 1)) (now .running) (now .left);
       ends = λ k es up within.
-          let next = next-says m w start good run es k (up .seconds) (up .no-stop) within in
+          let next = next-says m w start good going es k (up .seconds) (up .no-stop) within in
           let later = es ++ (second ∷ []) in
           says (after start later) (after-keeps start good later) (cond (ltb k (length w)) m 255) (length w - k) (next .0) (next .1);
       idle = λ es up later none.
           let last = after start (es ++ (second ∷ [])) in
           let sound = after-keeps start good (es ++ (second ∷ [])) in
-          let free = next-idle m w start good run es (length w) (up .seconds) (up .no-stop) (omega arith) refl in
+          let free = next-idle m w start good going es (length w) (up .seconds) (up .no-stop) (omega arith) refl in
           idles (after last later) (after-keeps last sound later) (stays-idle last sound free later none);
     }
 
@@ -224,47 +332,67 @@ pub demand-3-bytes : (b : Bench) → Reached b → b .store .running ≡ 255 →
     → (s : List ℕ) → readOf s ≡ answerOf (Reading.Taken (runCommand m)) → Started m (writtenOut (b .store) m) (carryOutBytes b s)
 demand-3-bytes b r free m closed s read = rw (run-accepted-bytes b (reached-sound b r) free m closed s read) (started b r free m closed)
 
+-- A RUN m that stands in a list of a run, behind the commands `before` and in front of `behind`, starts m just so: what is demanded holds from the
+-- run's end on, if no STOP is accepted behind it in the run itself.
+pub demand-3-run : (b : Bench) → Reached b → (kit pupil room : List ℕ) → runOf b kit pupil room .code ≡ 0
+    → (before : List (List ℕ)) (s : List ℕ) (behind : List (List ℕ)) → rests kit ++ rests pupil ≡ before ++ (s ∷ behind)
+    → let there = leftBy b before in there .store .running ≡ 255 → (m : ℕ) → isClosed (there .store) m ≡ true
+    → readOf s ≡ answerOf (Reading.Taken (runCommand m)) → takesAny isStop (taken there s .bench) behind ≡ false
+    → Demand3 m (writtenOut (there .store) m) (runOf b kit pupil room .bench)
+demand-3-run b r kit pupil room carried before s behind stands free m closed read none =
+    let good = reached-sound b r in
+    let there = leftBy b before in
+    let lasts = closed-lasts (there .store) (good-store there (left-good b good before)) m closed in
+    let going = run-begins-within b good kit pupil room carried before s behind stands free m closed read none in
+    runs m (writtenOut (there .store) m) (runOf b kit pupil room .bench) (event-keeps b good (run kit pupil room)) going (lasts .most)
+
 -- And of any idle bench that is sound: it stays idle until a RUN is accepted, whatever else happens.
 pub demand-3-idle : (b : Bench) → GoodBench b → b .store .running ≡ 255 → (es : List Event) → acceptsAny isRun b es ≡ false → Idle (after b es)
 demand-3-idle b good free es none = idles (after b es) (after-keeps b good es) (stays-idle b good free es none)
 
--- ## Whole runs
+-- # What the demands speak of: reached states, and runs
 
--- A run is no more than its commands, one after another, each an event from bytes (none where the run is refused). So a run may stand among the events of
--- all that is said above, a RUN or a STOP accepted in the middle of a list included, and the bench that it leaves is reached and sound.
-pub run-is-its-commands : (b : Bench) → GoodBench b → (kit pupil room : List ℕ) → runOf b kit pupil room .bench ≡ after b (eventsOf b kit pupil room)
-run-is-its-commands b good kit pupil room = run-leaves b good kit pupil room
+-- "A state reached from a fresh one is always sound": a fresh bench is, each event (a command, decoded or from bytes, a second, a run) keeps it, and so
+-- every reached bench is. (`GoodBench b`: the test of 27 passes, and the arrays of the store have their lengths, as every program's have.)
+pub fresh-is-sound : GoodBench freshBench
+fresh-is-sound = fresh-sound
 
+pub events-keep-soundness : (b : Bench) → GoodBench b → (e : Event) → GoodBench (afterOne b e)
+events-keep-soundness b good e = event-keeps b good e
+
+pub reached-is-sound : (b : Bench) → Reached b → GoodBench b
+reached-is-sound b r = reached-sound b r
+
+-- On a sound bench no call answers 27, and the status is a frame that the writer takes and the reader gives back.
+pub record Answers (b : Bench) : Type 0 where
+  pub command : (c : Command) → carryOut b c .told .code ≢ 27
+  pub bytes : (s : List ℕ) → carryOutBytes b s .told .code ≢ 27
+  pub second : secondAt b .told .code ≡ 0
+  pub run : (kit pupil room : List ℕ) → runOf b kit pupil room .code ≢ 27
+  pub status : statusAt b ≡ record { code = 0; shown = statusOf b ∷ [] }
+  pub status-written : (room : List ℕ) → 32 ≤ length room
+      → (frames.writeCode (statusOf b) room ≡ 0) × (frames.roomAfter (statusOf b) room ≡ frameBytes (statusOf b) ++ drop 32 room)
+  pub status-read : frames.readOf (frameBytes (statusOf b)) ≡ takenAs (statusOf b)
+
+pub sound-answers : (b : Bench) → GoodBench b → Answers b
+sound-answers b good =
+    record {
+      command = λ c e. omega (arith, rows.command-most b (good .sound) c);
+      bytes = λ s e. omega (arith, rows.bytes-most b (good .sound) s);
+      second = second-answers b good;
+      run = rows.run-not-27 b (good .sound);
+      status = status-answers b good;
+      status-written = status-written b good;
+      status-read = read-written (statusOf b) (status-rules b good);
+    }
+
+-- A run is an event of its own, and no more than its commands, one after another, each an event from bytes (none where the run is refused): it leaves what
+-- they leave, and a RUN or a STOP is accepted in it exactly when one of them is.
+pub run-is-its-commands : (b : Bench) → GoodBench b → (kit pupil room : List ℕ)
+    → (runOf b kit pupil room .bench ≡ after b (eventsOf b kit pupil room))
+    × ((test : Role → Bool) → accepts test b (run kit pupil room) ≡ acceptsAny test b (eventsOf b kit pupil room))
+run-is-its-commands b good kit pupil room = (run-leaves b good kit pupil room, run-accepts b good kit pupil room)
+
+-- What it leaves is reached where it began in a reached state.
 pub run-stays-reached : (b : Bench) → Reached b → (kit pupil room : List ℕ) → Reached (runOf b kit pupil room .bench)
 run-stays-reached b r kit pupil room = run-reaches b r kit pupil room
-
--- Demand 1 for runs: a code other than 0 leaves the bench and every lent byte, with counts of zero.
-pub demand-1-run : (b : Bench) (kit pupil room : List ℕ) → runOf b kit pupil room .code ≢ 0 → Untouched b kit pupil room
-demand-1-run b kit pupil room refused = refused-leaves b kit pupil room refused
-
--- Demand 2 for runs: the code is the first of 20, 21 and 27 that is due.
-pub demand-2-run : (b : Bench) (kit pupil room : List ℕ) → Order (runChecks b kit pupil room) (runOf b kit pupil room .code)
-demand-2-run b kit pupil room = run-order b kit pupil room
-
--- "with the sender's own line number": in the room after a run that was carried out, record k + 1 of a sender carries that sender, the verdict on the
--- command at place k of that sender's own list, as carrying it out gives it in the state that the commands before it left, and the number k + 1.
-pub demand-2-kit : (b : Bench) → GoodBench b → (kit pupil room : List ℕ) → runOf b kit pupil room .code ≡ 0 → (k : ℕ) → k < length (rests kit)
-    → Carries (recordAt (roomAfter b kit pupil room) k) 1 (carryOutBytes (after b (map bytes (take k (rests kit)))) (restAt kit k) .told) (k + 1)
-demand-2-kit b good kit pupil room accepted k there =
-    rw (kit-record b kit pupil room accepted k there, kit-verdict b good kit pupil k)
-    (record-carries 1 (carryOutBytes (after b (map bytes (take k (rests kit)))) (restAt kit k) .told) (k + 1))
-
-pub demand-2-pupil : (b : Bench) → GoodBench b → (kit pupil room : List ℕ) → runOf b kit pupil room .code ≡ 0 → (k : ℕ) → k < length (rests pupil)
-    → Carries (recordAt (roomAfter b kit pupil room) (length (rests kit) + k)) 2
-    (carryOutBytes (after b (map bytes (rests kit ++ take k (rests pupil)))) (restAt pupil k) .told) (k + 1)
-demand-2-pupil b good kit pupil room accepted k there =
-    rw (pupil-record b kit pupil room accepted k there, pupil-verdict b good kit pupil k)
-    (record-carries 2 (carryOutBytes (after b (map bytes (rests kit ++ take k (rests pupil)))) (restAt pupil k) .told) (k + 1))
-
--- The bytes shown for a sender and number are the very bytes that the record judged: alone they get the same verdict and leave the same bench.
-pub shown-are-judged : (kit pupil : List ℕ) → length kit ≤ 4096 → length pupil ≤ 4096 → (b : Bench) → benchSound b ≡ true → (sender k : ℕ)
-    → carryOutBytes b (shownOf kit pupil sender (k + 1)) ≡ carryOutBytes b (restAt (listOf kit pupil sender) k)
-shown-are-judged kit pupil kit-short pupil-short b sound sender k =
-    sym (sound-bytes b (shownOf kit pupil sender (k + 1)) sound)
-    ∙ shown-judged kit pupil kit-short pupil-short b sender k
-    ∙ sound-bytes b (restAt (listOf kit pupil sender) k) sound

@@ -22,7 +22,7 @@ list-leaves b sender number [] = refl
 list-leaves b sender number (r ∷ rs) = list-leaves (taken b r .bench) sender (number + 1) rs
 
 -- Commands in two goes; so those behind the kit's list, and both lists.
-left-append : (b : Bench) (xs ys : List (List ℕ)) → leftBy (leftBy b xs) ys ≡ leftBy b (xs ++ ys)
+pub left-append : (b : Bench) (xs ys : List (List ℕ)) → leftBy (leftBy b xs) ys ≡ leftBy b (xs ++ ys)
 left-append b [] ys = refl
 left-append b (x ∷ xs) ys = left-append (taken b x .bench) xs ys
 
@@ -31,6 +31,11 @@ kit-then b kit rs = ap (λ c. leftBy c rs) (list-leaves b 1 1 (rests kit)) ∙ l
 
 pub both-left : (b : Bench) (kit pupil : List ℕ) → pupilPart b kit pupil .bench ≡ leftBy b (rests kit ++ rests pupil)
 both-left b kit pupil = list-leaves (kitPart b kit .bench) 2 1 (rests pupil) ∙ kit-then b kit (rests pupil)
+
+-- So a run that is carried out leaves what its commands leave.
+pub run-left : (b : Bench) (kit pupil room : List ℕ) → runOf b kit pupil room .code ≡ 0 → runOf b kit pupil room .bench ≡ leftBy b (rests kit ++ rests pupil)
+unfolding runOf
+run-left b kit pupil room accepted = rw accepted (both-left b kit pupil)
 
 -- A run does one of two things: it leaves the bench, or it is carried out and leaves what its commands leave.
 pub by-run : (P : Bench → Type 0) (b : Bench) (kit pupil room : List ℕ)

@@ -7,11 +7,13 @@ pub mod Slips
 pub mod Unique
 pub mod UniqueRun
 pub mod Rows
+pub mod Parameter
 pub mod Camera
 pub mod Sound
 pub mod ByTally
 pub mod MacroRun
 pub mod InTurn
+pub mod Back
 pub mod Outcomes
 pub mod Own
 mod Decisions

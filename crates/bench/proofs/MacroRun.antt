@@ -26,11 +26,13 @@ use Rattle.store.proofs.Running.{RunOf, run-starts, run-stays, RunSecond, run-s
 use Rattle.bench.specs.declared.Bench.{Bench}
 use Rattle.bench.specs.Carry.{Outcome, outcomeFor, effectOf, carryCode, carryOut, said, taken, carryBytesCode, carryOutBytes}
 use Rattle.bench.specs.Second.{secondAt}
+use Rattle.bench.specs.Run.{runOf}
 use Rattle.bench.specs.Events.{Event, command, bytes, second, run, afterOne, after, secondsIn, isStop}
 use Rattle.bench.specs.Events.{executes, takes, takesAny, accepts, acceptsAny}
-use Rattle.bench.proofs.Outcomes.{carry-code, read-then, carry-bytes-code}
-use Rattle.bench.proofs.InTurn.{leftBy, by-run}
-use Rattle.bench.proofs.Sound.{GoodBench, good-store, Accepted, effect-keeps, Takes, by-command, by-bytes, by-taken, taken-good}
+use Rattle.bench.proofs.Outcomes.{carry-code, read-then, carry-bytes-code, sound-bytes}
+use Rattle.bench.proofs.Back.{command-read}
+use Rattle.bench.proofs.InTurn.{leftBy, left-append, run-left, by-run}
+use Rattle.bench.proofs.Sound.{GoodBench, good-store, Accepted, effect-keeps, Takes, by-command, by-bytes, by-taken, taken-good, left-good}
 use Rattle.bench.proofs.Sound.{second-is, event-keeps, after-keeps}
 
 -- Macro m runs on bench b with the list w, of which k seconds are over.
@@ -154,19 +156,33 @@ module _ (b : Bench) (good : GoodBench b) (free : Idle b) (m : ℕ) (closed : is
       ap (λ n. outcomeFor n b (runCommand m)) code
 
   pub run-accepted-bytes : (s : List ℕ) → readOf s ≡ answerOf (Reading.Taken (runCommand m)) → carryOutBytes b s ≡ begun
-  unfolding carryOutBytes readOf
+  unfolding carryOutBytes
   run-accepted-bytes s read =
-      let none : readCode s ≡ 0 = ap (λ (a : Answer). a .told .code) read in
-      let both : cond (eqb (readCode s) 0) (said s ∷ []) [] ≡ runCommand m ∷ [] = ap (λ (a : Answer). a .taken) read in
-      let one : said s ∷ [] ≡ runCommand m ∷ [] = rw none at both in
-      let same : said s ≡ runCommand m = cc in
-      let code : carryBytesCode b s ≡ 0 = rw (carry-bytes-code b s (good .sound), read-then b s, none, same) run-permitted in
-      ap (λ n. outcomeFor n b (said s)) code ∙ ap (λ (c : Command). outcomeFor 0 b c) same
+      let says = command-read s (runCommand m) read in
+      let code : carryBytesCode b s ≡ 0 = rw (carry-bytes-code b s (good .sound), read-then b s, says .0, says .1) run-permitted in
+      ap (λ n. outcomeFor n b (said s)) code ∙ ap (λ (c : Command). outcomeFor 0 b c) (says .1)
 
   pub begun-sound : GoodBench (effectOf b (runCommand m))
   begun-sound = effect-keeps b good (runCommand m) (record { judge = run-judged; permit = run-permitted })
 
--- A run that has begun, and events up to second k with no STOP accepted: what that second hands over, and what it leaves.
+-- The same where RUN m stands in a list of a run: after the commands that stand before it, and with no STOP accepted behind it.
+module _ (b : Bench) (good : GoodBench b) (kit pupil room : List ℕ) (carried : runOf b kit pupil room .code ≡ 0)
+    (before : List (List ℕ)) (s : List ℕ) (behind : List (List ℕ)) (stands : rests kit ++ rests pupil ≡ before ++ (s ∷ behind)) where
+  abbrev there : Bench
+  there = leftBy b before
+
+  pub run-begins-within : (free : Idle there) (m : ℕ) (closed : isClosed (there .store) m ≡ true) → readOf s ≡ answerOf (Reading.Taken (runCommand m))
+      → takesAny isStop (taken there s .bench) behind ≡ false → Runs m (writtenOut (there .store) m) 0 (runOf b kit pupil room .bench)
+  run-begins-within free m closed read none =
+      let w = writtenOut (there .store) m in
+      let sound = left-good b good before in
+      let starts : taken there s ≡ begun there sound free m closed = sound-bytes there s (sound .sound) ∙ run-accepted-bytes there sound free m closed s read in
+      let first : Runs m w 0 (taken there s .bench) = rw starts (run-begins there sound free m closed) in
+      let all : leftBy b (rests kit ++ rests pupil) ≡ leftBy (taken there s .bench) behind = ap (leftBy b) stands ∙ sym (left-append b before (s ∷ behind)) in
+      let last = turns-keep isStop (Runs m w 0) (effect-stays m w 0) (taken there s .bench) (taken-good there sound s) first behind none in
+      subst (Runs m w 0) (sym (run-left b kit pupil room carried ∙ all)) last
+
+-- A macro that was started, and events up to second k with no STOP accepted: what that second hands over, and what it leaves.
 module _ (m : ℕ) (w : List (List Kind)) (start : Bench) (good : GoodBench start) (runs : Runs m w 0 start)
     (es : List Event) (k : ℕ) (seconds : secondsIn es + 1 ≡ k) (none : acceptsAny isStop start es ≡ false) (within : k ≤ length w) where
   abbrev now : Bench

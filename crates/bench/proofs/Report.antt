@@ -13,7 +13,7 @@ use Rattle.words.proofs.Tests.{neither}
 use Rattle.words.specs.BigEndian.{wordAt, byteAt}
 use Rattle.words.proofs.Laws.{with-room}
 use Rattle.wire.specs.declared.judging.Told.{Told}
-use Rattle.wire.proofs.Order.{Order, order, due-none}
+use Rattle.wire.proofs.Order.{due-none}
 use Rattle.walk.specs.Walk.{rests}
 use Rattle.walk.specs.Shown.{listOf, shownOf}
 use Rattle.walk.proofs.Rests.{records-fit}
@@ -246,11 +246,6 @@ run-reaches b r kit pupil room =
       events = r .events ++ (run kit pupil room ∷ []);
       reached = after-append freshBench (r .events) (run kit pupil room ∷ []) ∙ ap (λ c. runOf c kit pupil room .bench) (r .reached);
     }
-
--- The code of a run is the first of 20, 21 and 27 that is due, and 0 exactly when none is.
-pub run-order : (b : Bench) (kit pupil room : List ℕ) → Order (runChecks b kit pupil room) (runOf b kit pupil room .code)
-unfolding runOf runCode
-run-order b kit pupil room = order (runChecks b kit pupil room) refl
 
 -- A refused run leaves the bench and every byte of the room as they were, with counts of zero.
 pub record Untouched (b : Bench) (kit pupil room : List ℕ) : Type 0 where

@@ -1,24 +1,34 @@
--- The rows of 01's codes as a bench tries them: on a sound one rows 8 to 19 or, from bytes, 1 to 19, whose codes rise; on any other one row 27.
+-- The rows of 01's codes as each call tries them. Carrying out tries, on a sound bench, rows 8 to 19 or, from bytes, 1 to 19, whose codes rise; on any
+-- other bench row 27 is the first. The other calls of a bench follow.
 use Prim.Native.Nat.{ℕ, _≤_}
 use mathlib.Core.Path.{_≡_, refl, sym, ap, subst}
+use mathlib.Core.Logic.{_↔_, _≢_}
 use mathlib.Core.List.{List, [], _∷_, _++_}
-use mathlib.Core.Bool.{Bool, true, false, cond, _&&_}
+use mathlib.Core.Bool.{Bool, true, false, cond, not, _&&_}
 use native.Mathlib.Omega.{arith}
 use lib.Dec.{leb}
 use borrow.Author.Tests.{leb-true}
 use Rattle.words.proofs.Tests.{both}
-use Rattle.words.specs.BigEndian.{wordAt}
+use Rattle.words.specs.BigEndian.{wordAt, hasRoom}
 use Rattle.wire.specs.declared.table.Found.{Found}
 use Rattle.wire.specs.declared.kinds.Command.{Command}
-use Rattle.wire.specs.Codes.{Check, firstOf}
+use Rattle.wire.specs.Codes.{Check, _when_, firstOf}
 use Rattle.wire.specs.Table.{ruleOf}
+use Rattle.wire.specs.Judge.{toldWith}
 use Rattle.wire.specs.Read.{decodeChecks, opcodeOf, flagOf, lengthOf, thirdWord}
-use Rattle.wire.proofs.Order.{Order, order, rising}
+use Rattle.wire.proofs.Order.{NoneDue, Order, order, rising}
+use Rattle.report.specs.Record.{putCode}
 use Rattle.store.specs.Checks.{storeChecks}
 use Rattle.bench.specs.declared.Bench.{Bench}
-use Rattle.bench.specs.Status.{benchSound}
-use Rattle.bench.specs.Carry.{Outcome, commandChecks, carryOut, said, bytesChecks, carryOutBytes}
+use Rattle.bench.specs.Status.{benchSound, soundCheck, statusAt}
+use Rattle.bench.specs.Carry.{Outcome, effectOf, outcomeFor, commandChecks, carryOut, said, bytesChecks, carryOutBytes}
+use Rattle.bench.specs.Second.{secondAt}
+use Rattle.bench.specs.Run.{runChecks, runCode, runOf}
 use Rattle.bench.proofs.Outcomes.{carry-bytes-code, unsound, unsound-bytes}
+
+-- What an accepted command is answered: code 0, and the bench after its effect.
+abbrev pub takenAs : Bench → Command → Outcome
+takenAs b c = record { told = toldWith 0 0; bench = effectOf b c }
 
 -- The code that is told.
 pub command-code : (b : Bench) (c : Command) → benchSound b ≡ true → carryOut b c .told .code ≡ firstOf (commandChecks b c)
@@ -50,6 +60,19 @@ command-order b sound c = subst (Order (commandChecks b c)) (sym (command-code b
 pub bytes-order : (b : Bench) → benchSound b ≡ true → (s : List ℕ) → Order (bytesChecks b s) (carryOutBytes b s .told .code)
 bytes-order b sound s = subst (Order (bytesChecks b s)) (sym (bytes-code b s sound)) (order (bytesChecks b s) (bytes-rise b s .0))
 
+-- Where no row holds the command is taken: code 0, and its effect.
+pub command-taken : (b : Bench) → benchSound b ≡ true → (c : Command) → (carryOut b c ≡ takenAs b c) ↔ NoneDue (commandChecks b c)
+unfolding carryOut
+command-taken b sound c =
+    let rows = command-order b sound c .accepted in
+    (λ e. rows .0 (ap (λ (o : Outcome). o .told .code) e), λ none. ap (λ n. outcomeFor n b c) (rows .1 none))
+
+pub bytes-taken : (b : Bench) → benchSound b ≡ true → (s : List ℕ) → (carryOutBytes b s ≡ takenAs b (said s)) ↔ NoneDue (bytesChecks b s)
+unfolding carryOutBytes
+bytes-taken b sound s =
+    let rows = bytes-order b sound s .accepted in
+    (λ e. rows .0 (ap (λ (o : Outcome). o .told .code) e), λ none. ap (λ n. outcomeFor n b (said s)) (rows .1 none))
+
 first-upTo : (n : ℕ) (cs : List Check) → upTo n cs ≡ true → firstOf cs ≤ n
 first-upTo n [] h = omega arith
 first-upTo n (c ∷ cs) h =
@@ -72,3 +95,31 @@ command-unsound b e c = ap (λ (o : Outcome). o .told .code) (sym (unsound b c e
 
 pub bytes-unsound : (b : Bench) → benchSound b ≡ false → (s : List ℕ) → carryOutBytes b s .told .code ≡ 27
 bytes-unsound b e s = ap (λ (o : Outcome). o .told .code) (sym (unsound-bytes b s e))
+
+-- A second and the status have row 27 alone.
+pub second-order : (b : Bench) → Order (soundCheck b ∷ []) (secondAt b .told .code)
+unfolding secondAt
+second-order b = order (soundCheck b ∷ []) refl
+
+pub status-order : (b : Bench) → Order (soundCheck b ∷ []) (statusAt b .code)
+unfolding statusAt
+status-order b = order (soundCheck b ∷ []) refl
+
+-- The code of a run is the first of 20, 21 and 27 that is due; on a sound bench 27 is not.
+pub run-order : (b : Bench) (kit pupil room : List ℕ) → Order (runChecks b kit pupil room) (runOf b kit pupil room .code)
+unfolding runOf runCode
+run-order b kit pupil room = order (runChecks b kit pupil room) refl
+
+pub run-not-27 : (b : Bench) → benchSound b ≡ true → (kit pupil room : List ℕ) → runOf b kit pupil room .code ≢ 27
+run-not-27 b sound kit pupil room e =
+    let due : not (benchSound b) ≡ true = run-order b kit pupil room .placed 2 (omega arith) .0 e .due in
+    let never : _≡_ {A = Bool} false true = rw sound at due in
+    absurd (let z : _≡_ {A = ℕ} 0 1 = cc in omega arith)
+
+-- A record's writer has row 24 alone.
+pub put-order : (bytes room : List ℕ) → Order (24 when not (hasRoom bytes room) ∷ []) (putCode bytes room)
+put-order bytes room = go (hasRoom bytes room)
+  where
+    go : (fits : Bool) → Order (24 when not fits ∷ []) (cond fits 0 24)
+    go true = order (24 when false ∷ []) refl
+    go false = order (24 when true ∷ []) refl
