@@ -3,11 +3,12 @@ use Prim.Native.Nat.{ℕ, zero, suc}
 use mathlib.Core.Path.{_≡_, refl}
 use mathlib.Core.List.{List, [], _∷_}
 use mathlib.Core.Bool.{Bool, true, false}
-use lib.ListN.{length}
+use lib.ListN.{length, set, replicate}
 use lib.IntN.{pos, negsuc}
 use lib.Ieee.{Float, nan, fin, ofBits, toBits}
 use Rattle.words.specs.BigEndian.{bytesOf}
 use Rattle.wire.specs.declared.kinds.Kind.{Kind}
+use Rattle.wire.specs.declared.kinds.Command.{Command}
 use Rattle.wire.specs.Judge.{toldWith, judgeCode}
 use Rattle.wire.specs.Read.{sumOf, readOf}
 use Rattle.wire.specs.Write.{commandBytes}
@@ -15,9 +16,9 @@ use Rattle.frame.specs.Rules.{frameRule}
 use Rattle.camera.specs.declared.Camera.{Camera}
 use Rattle.camera.specs.Series.{freshSeries, seriesWith, secondOf}
 use Rattle.camera.specs.Camera.{freshCamera, withSeries, withRegion, withGoal, withModes, withFlushes}
-use Rattle.store.specs.Slots.{entriesOf, kept}
+use Rattle.store.specs.Slots.{slotAt, entriesOf, kept}
 use Rattle.store.specs.WrittenOut.{expand, flatBelow, flat, seconds, writtenOut}
-use Rattle.store.specs.Effects.{appliedOf}
+use Rattle.store.specs.Effects.{storeWith, freshSlots, freshStore, appliedOf}
 use Rattle.store.specs.Sound.{allBelow, allOf, storeSound}
 use Rattle.bench.specs.declared.Bench.{Bench}
 use Rattle.bench.specs.Status.{freshBench, benchSound}
@@ -27,12 +28,12 @@ use Rattle.bench.specs.Events.{Event, bytes, after}
 
 -- What a case is: commands are given as their 32-bit words.
 pub data Case : Type 0 where
-  -- a command: its words, its flag and kind, then its code on a fresh bench and the camera that it leaves
-  command : List ℕ → Bool → Kind → ℕ → Camera → Case
-  -- words that are refused as they are read, with this code and parameter
+  -- after some commands (none: a fresh bench) a command: its words, its flag and kind, then its code and the whole bench that it leaves
+  command : List (List ℕ) → List ℕ → Bool → Kind → ℕ → Bench → Case
+  -- words that are refused as they are read, with this code and parameter; a fresh bench stays fresh
   misread : List ℕ → ℕ → ℕ → Case
-  -- a decoded command that a fresh bench answers with this code and parameter
-  decoded : Kind → ℕ → ℕ → Case
+  -- a decoded command that a fresh bench answers with this code and parameter, and the whole bench that it leaves
+  decoded : Kind → ℕ → ℕ → Bench → Case
   -- after these commands: the count of images as each second ends
   counts : List (List ℕ) → List ℕ → Case
   -- after these commands: the length of macro m
@@ -57,15 +58,14 @@ told show b (suc n) = show (secondAt b) ∷ told show (secondAt b .bench) n
 
 -- What a case claims.
 abbrev pub Claim : Case → Type 0
-Claim (command words flag kind code camera) =
+Claim (command before words flag kind code bench) =
     (readOf (bytesOf words) ≡ record { told = toldWith 0 0; taken = record { flag = flag; kind = kind } ∷ [] })
     × (commandBytes (record { flag = flag; kind = kind }) ≡ bytesOf words)
-    × (carryOutBytes freshBench (bytesOf words) .told ≡ toldWith code 0)
-    × (carryOutBytes freshBench (bytesOf words) .bench .camera ≡ camera)
+    × (carryOutBytes (benchOf before) (bytesOf words) ≡ record { told = toldWith code 0; bench = bench })
 Claim (misread words code par) =
     (readOf (bytesOf words) ≡ record { told = toldWith code par; taken = [] })
     × (carryOutBytes freshBench (bytesOf words) ≡ record { told = toldWith code par; bench = freshBench })
-Claim (decoded kind code par) = carryOut freshBench (record { flag = false; kind = kind }) .told ≡ toldWith code par
+Claim (decoded kind code par bench) = carryOut freshBench (record { flag = false; kind = kind }) ≡ record { told = toldWith code par; bench = bench }
 Claim (counts commands images) = told (λ s. s .bench .camera .image .count) (benchOf commands) (length images) ≡ images
 Claim (lasts commands m seconds) = length (writtenOut (benchOf commands .store) m) ≡ seconds
 Claim (hands commands kinds) = told (λ s. s .handed) (benchOf commands) (length kinds) ≡ kinds
@@ -90,6 +90,17 @@ limit = fin false 1 (pos 10)
 abbrev below : Float
 below = fin false 0xffffff (negsuc 13)
 
+-- A bench that is fresh but for its camera, and one that is fresh but for the entries, their number in each macro, and the open macro.
+abbrev showing : Camera → Bench
+showing camera = record { camera = camera; store = freshStore }
+
+abbrev holding : List Command → List ℕ → ℕ → Bench
+holding entries sizes opened = record { camera = freshCamera; store = storeWith entries sizes (replicate 8 false) opened 255 0 }
+
+-- OPEN 3.
+abbrev open3 : List ℕ
+open3 = 0x7f010003 ∷ 0x03000000 ∷ 0x7c010003 ∷ []
+
 -- The two macros of the last example, and RUN 1.
 abbrev macros : List (List ℕ)
 macros =
@@ -111,31 +122,37 @@ macros =
 abbrev pub cases : List Case
 cases =
     -- 015a0002 015a0002: FLUSH, code 0. With flag: 015a8002 015a8002, code 11 on a fresh bench.
-    command (0x015a0002 ∷ 0x015a0002 ∷ []) false Kind.TlmFlush 0 (withFlushes freshCamera 1)
-    ∷ command (0x015a8002 ∷ 0x015a8002 ∷ []) true Kind.TlmFlush 11 freshCamera
+    command [] (0x015a0002 ∷ 0x015a0002 ∷ []) false Kind.TlmFlush 0 (showing (withFlushes freshCamera 1))
+    ∷ command [] (0x015a8002 ∷ 0x015a8002 ∷ []) true Kind.TlmFlush 11 freshBench
     -- 01140003 01000000 00140003: power on.
-    ∷ command (0x01140003 ∷ 0x01000000 ∷ 0x00140003 ∷ []) false (Kind.ImgPwr 1) 0 (withModes freshCamera true false false 0)
+    ∷ command [] (0x01140003 ∷ 0x01000000 ∷ 0x00140003 ∷ []) false (Kind.ImgPwr 1) 0 (showing (withModes freshCamera true false false 0))
     -- 01170003 02000100 03170103: region 512, 256.
-    ∷ command (0x01170003 ∷ 0x02000100 ∷ 0x03170103 ∷ []) false (Kind.ImgRegion 512 256) 0 (withRegion freshCamera 512 256)
+    ∷ command [] (0x01170003 ∷ 0x02000100 ∷ 0x03170103 ∷ []) false (Kind.ImgRegion 512 256) 0 (showing (withRegion freshCamera 512 256))
     -- 01500003 00050002 01550001: image, 5 s, every 2 s. Images come in seconds 1, 3 and 5.
-    ∷ command (0x01500003 ∷ 0x00050002 ∷ 0x01550001 ∷ []) false (Kind.ImgImage 5 2) 0 (withSeries freshCamera (seriesWith 5 2 1 0) freshSeries)
+    ∷ command [] (0x01500003 ∷ 0x00050002 ∷ 0x01550001 ∷ []) false (Kind.ImgImage 5 2) 0
+    (showing (withSeries freshCamera (seriesWith 5 2 1 0) freshSeries))
     ∷ counts ((0x01500003 ∷ 0x00050002 ∷ 0x01550001 ∷ []) ∷ []) (1 ∷ 1 ∷ 2 ∷ 2 ∷ 3 ∷ 3 ∷ 3 ∷ [])
     -- 01500003 00050000 01550003: code 8, parameter 2.
     ∷ misread (0x01500003 ∷ 0x00050000 ∷ 0x01550003 ∷ []) 8 2
     -- 01530004 43ffc000 00000000 42acc004: goal 511.5, 0.
-    ∷ command (0x01530004 ∷ 0x43ffc000 ∷ 0x00000000 ∷ 0x42acc004 ∷ []) false (Kind.TrkGoal half nought) 0 (withGoal freshCamera 0x43ffc000 0)
+    ∷ command [] (0x01530004 ∷ 0x43ffc000 ∷ 0x00000000 ∷ 0x42acc004 ∷ []) false (Kind.TrkGoal half nought) 0
+    (showing (withGoal freshCamera 0x43ffc000 0))
     -- Goal bits 447fffff allowed, 44800000 and 7fc00000 not.
-    ∷ command (0x01530004 ∷ 0x447fffff ∷ 0x447fffff ∷ 0x01530004 ∷ []) false (Kind.TrkGoal below below) 0 (withGoal freshCamera 0x447fffff 0x447fffff)
+    ∷ command [] (0x01530004 ∷ 0x447fffff ∷ 0x447fffff ∷ 0x01530004 ∷ []) false (Kind.TrkGoal below below) 0
+    (showing (withGoal freshCamera 0x447fffff 0x447fffff))
     ∷ misread (0x01530004 ∷ 0x44800000 ∷ 0x00000000 ∷ 0x45d30004 ∷ []) 8 1
     ∷ misread (0x01530004 ∷ 0x00000000 ∷ 0x44800000 ∷ 0x45d30004 ∷ []) 8 2
     ∷ misread (0x01530004 ∷ 0x7fc00000 ∷ 0x00000000 ∷ 0x7e930004 ∷ []) 8 1
     ∷ misread (0x01530004 ∷ 0x00000000 ∷ 0x7fc00000 ∷ 0x7e930004 ∷ []) 8 2
-    ∷ decoded (Kind.TrkGoal below below) 0 0
-    ∷ decoded (Kind.TrkGoal limit nought) 8 1
-    ∷ decoded (Kind.TrkGoal nought nan) 8 2
+    ∷ decoded (Kind.TrkGoal below below) 0 0 (showing (withGoal freshCamera 0x447fffff 0x447fffff))
+    ∷ decoded (Kind.TrkGoal limit nought) 8 1 freshBench
+    ∷ decoded (Kind.TrkGoal nought nan) 8 2 freshBench
     -- 7f010003 03000000 7c010003: OPEN 3. 7f048003 00020000 7f068003: appended WAIT 2.
-    ∷ command (0x7f010003 ∷ 0x03000000 ∷ 0x7c010003 ∷ []) false (Kind.Open 3) 0 freshCamera
-    ∷ command (0x7f048003 ∷ 0x00020000 ∷ 0x7f068003 ∷ []) true (Kind.Wait 2) 11 freshCamera
+    -- (OPEN 3 opens macro 3. WAIT 2 is refused where no macro is open, and behind OPEN 3 it is stored as macro 3's first entry. Nothing else changes.)
+    ∷ command [] open3 false (Kind.Open 3) 0 (holding freshSlots (replicate 8 0) 3)
+    ∷ command [] (0x7f048003 ∷ 0x00020000 ∷ 0x7f068003 ∷ []) true (Kind.Wait 2) 11 freshBench
+    ∷ command (open3 ∷ []) (0x7f048003 ∷ 0x00020000 ∷ 0x7f068003 ∷ []) true (Kind.Wait 2) 0
+    (holding (set freshSlots (slotAt 3 0) (record { flag = true; kind = Kind.Wait 2 })) (0 ∷ 0 ∷ 0 ∷ 1 ∷ 0 ∷ 0 ∷ 0 ∷ 0 ∷ []) 3)
     -- Macro 0 is FLUSH, WAIT 2: length 3.
     ∷ lasts macros 0 3
     -- Macro 1 is RUN 0, power off, RUN 0: length 7, with FLUSH in seconds 1 and 5 and power off in 4.
@@ -153,15 +170,15 @@ pub cases-hold : Holds cases
 unfolding bytesOf readOf sumOf commandBytes judgeCode ofBits toBits frameRule secondOf entriesOf kept expand flatBelow flat seconds writtenOut appliedOf
     allBelow allOf storeSound benchSound carryOut carryOutBytes secondAt
 cases-hold =
-    (refl, refl, refl, refl)
-    also (refl, refl, refl, refl)
-    also (refl, refl, refl, refl)
-    also (refl, refl, refl, refl)
-    also (refl, refl, refl, refl)
+    (refl, refl, refl)
+    also (refl, refl, refl)
+    also (refl, refl, refl)
+    also (refl, refl, refl)
+    also (refl, refl, refl)
     also refl
     also (refl, refl)
-    also (refl, refl, refl, refl)
-    also (refl, refl, refl, refl)
+    also (refl, refl, refl)
+    also (refl, refl, refl)
     also (refl, refl)
     also (refl, refl)
     also (refl, refl)
@@ -169,8 +186,9 @@ cases-hold =
     also refl
     also refl
     also refl
-    also (refl, refl, refl, refl)
-    also (refl, refl, refl, refl)
+    also (refl, refl, refl)
+    also (refl, refl, refl)
+    also (refl, refl, refl)
     also refl
     also refl
     also refl
