@@ -1,4 +1,4 @@
--- What a reading that took something says, and the round trips of commands and status frames in these words: written and read back, read and written back.
+-- What a reading that took a command or a status frame says, and that what was read is written again as the bytes that it was read from.
 use Prim.Native.Nat.{ℕ, _*_, _≤_}
 use mathlib.Core.Path.{_≡_, ap}
 use mathlib.Core.List.{List, [], _∷_, _++_}

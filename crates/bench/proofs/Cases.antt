@@ -148,7 +148,7 @@ cases =
     ∷ decoded (Kind.TrkGoal limit nought) 8 1 freshBench
     ∷ decoded (Kind.TrkGoal nought nan) 8 2 freshBench
     -- 7f010003 03000000 7c010003: OPEN 3. 7f048003 00020000 7f068003: appended WAIT 2.
-    -- (OPEN 3 opens macro 3. WAIT 2 is refused where no macro is open, and behind OPEN 3 it is stored as macro 3's first entry. Nothing else changes.)
+    -- (OPEN 3 opens macro 3. WAIT 2 is refused where none is open, and behind OPEN 3 it is stored as macro 3's first entry. Nothing else changes.)
     ∷ command [] open3 false (Kind.Open 3) 0 (holding freshSlots (replicate 8 0) 3)
     ∷ command [] (0x7f048003 ∷ 0x00020000 ∷ 0x7f068003 ∷ []) true (Kind.Wait 2) 11 freshBench
     ∷ command (open3 ∷ []) (0x7f048003 ∷ 0x00020000 ∷ 0x7f068003 ∷ []) true (Kind.Wait 2) 0
@@ -167,8 +167,8 @@ abbrev _also_ : {A B : Type 0} → A → B → A × B
 a also b = (a, b)
 
 pub cases-hold : Holds cases
-unfolding bytesOf readOf sumOf commandBytes judgeCode ofBits toBits frameRule secondOf entriesOf kept expand flatBelow flat seconds writtenOut appliedOf
-    allBelow allOf storeSound benchSound carryOut carryOutBytes secondAt
+unfolding bytesOf readOf sumOf commandBytes judgeCode ofBits toBits frameRule secondOf entriesOf kept expand flatBelow flat seconds writtenOut
+    appliedOf allBelow allOf storeSound benchSound carryOut carryOutBytes secondAt
 cases-hold =
     (refl, refl, refl)
     also (refl, refl, refl)

@@ -1,7 +1,7 @@
--- The three demands, whole and word for word, and under every sentence the theorem that carries it. The theorems speak of the meanings that the promises in
--- src/ name: what `carry_out` answers is `carryOut`, `carry_out_bytes` `carryOutBytes`, `second` `secondAt`, `status` `statusAt`, and `run` `runOf` with the
--- room `roomAfter` (specs/Carry, Second, Status, Run). What can happen to a bench is a list of events: commands, seconds and runs (specs/Events).
--- Read the statements here; what they rest on is proved in Rows, Parameter, Back, Sound, MacroRun and Report.
+-- The three demands, word for word, and under every clause of them the theorems that carry it. The theorems speak of the meanings that the promises
+-- in src/ name: what `carry_out` answers is `carryOut`, `carry_out_bytes` `carryOutBytes`, `second` `secondAt`, `status` `statusAt`, and `run`
+-- `runOf` with the room `roomAfter` (specs/Carry, Second, Status, Run). What can happen to a bench is a list of events: commands, seconds and runs
+-- (specs/Events). Read the statements here; what they rest on is proved in Rows, Parameter, Back, Sound, MacroRun and Report.
 use Prim.Native.Nat.{ℕ, _+_, _*_, _-_, _≤_, _<_}
 use mathlib.Core.Path.{_≡_, refl, sym, _∙_}
 use mathlib.Core.Logic.{_↔_, _≢_}
@@ -51,21 +51,24 @@ use Rattle.bench.proofs.Back.{command-again, frame-again}
 use Rattle.bench.proofs.InTurn.{leftBy}
 use Rattle.bench.proofs.Sound.{GoodBench, good-store, left-good, fresh-sound, event-keeps, after-keeps, reached-sound}
 use Rattle.bench.proofs.Sound.{second-answers, status-answers, status-rules, status-written}
-use Rattle.bench.proofs.MacroRun.{runCommand, stays-idle, idle-hands, run-begins, run-accepted, run-accepted-bytes, begun-sound, run-begins-within}
-use Rattle.bench.proofs.MacroRun.{now-runs, now-hands, next-says, next-idle}
+use Rattle.bench.proofs.MacroRun.{runCommand, run-begins, run-accepted, run-accepted-bytes, begun-sound, run-begins-within}
+use Rattle.bench.proofs.MacroRun.{stays-idle, idle-hands, now-runs, now-hands, next-says, next-idle}
 use Rattle.bench.proofs.Outcomes.{sound-bytes}
 use Rattle.bench.proofs.Report.{Carries, restAt, recordAt, eventsOf, Untouched, record-carries, kit-record, pupil-record}
 use Rattle.bench.proofs.Report.{kit-verdict, pupil-verdict, run-leaves, run-accepts, run-reaches, refused-leaves, shown-judged}
 
 -- # Demand 1
+--
+-- "No list, frame or state makes the code misbehave or run on. Every entry point judges its own input; a refused command leaves the bench as it was,
+-- and a refused call writes nothing into lent memory."
 
 -- "No list, frame or state makes the code misbehave or run on."
--- The prover itself gives this: every function of src/ has been proved to end and to be free of faults on every input of its type, for no public one has a
--- `requires`.
+-- The prover itself gives this: every function of src/ has been proved to end and to be free of faults on every input of its type, for none of the
+-- public ones has a `requires`.
 
 -- "Every entry point judges its own input;"
--- Each call that may refuse tries a list of checks on its own input, and `Order` (wire, proofs/Order) says that its code is that of the first check that is
--- due, and 0 exactly when none is. Carrying out tries 27 first, and then the rows of demand 2.
+-- A call that may refuse tries a list of checks on its own input, and `Order` (wire, proofs/Order) says that its code is that of the first check that
+-- is due, and 0 exactly when none is. Carrying out tries 27 first, and then the rows of demand 2. Every other call has an answer to every input.
 pub record Judges : Type 0 where
   pub read-command : (s : List ℕ) → Order (readChecks s) (readOf s .told .code)
   pub write-command : (c : Command) (room : List ℕ) → Order (writing.writeChecks c room) (writing.wroteAt c room .told .code)
@@ -106,19 +109,15 @@ demand-1-bytes b s refused = rw (ne-eqb (carryBytesCode b s) 0 refused)
 
 -- A second that is refused (27 is its one refusal) hands over nothing besides.
 pub demand-1-second : (b : Bench) → secondAt b .told .code ≢ 0 → (secondAt b .bench ≡ b) × (secondAt b .handed ≡ [])
-unfolding secondAt
-demand-1-second b refused = go (benchSound b) refl
-  where
-    go : (t : Bool) → benchSound b ≡ t → (secondAt b .bench ≡ b) × (secondAt b .handed ≡ [])
-    go true e = absurd (refused (rw e))
-    go false e = (rw e, rw e)
+demand-1-second b refused = rows.second-refused b refused
 
 -- A run that is refused leaves the bench and its room, with counts of zero.
 pub demand-1-run : (b : Bench) (kit pupil room : List ℕ) → runOf b kit pupil room .code ≢ 0 → Untouched b kit pupil room
 demand-1-run b kit pupil room refused = refused-leaves b kit pupil room refused
 
 -- "and a refused call writes nothing into lent memory."
--- Beside the run there are three calls that write: `write_command`, `write_frame` and `put_record`, whose room is then `written` with the record's bytes.
+-- Beside the run: `write_command`, `write_frame`, and `put_record`, whose room is `written` with the record's bytes, as the rooms of the writers of
+-- words and of text are with theirs.
 pub demand-1-write-command : (c : Command) (room : List ℕ) → writing.wroteAt c room .told .code ≢ 0 → writing.roomAfter c room ≡ room
 unfolding writing.wroteAt
 demand-1-write-command c room refused = commands.refused-write c room refused
@@ -130,10 +129,13 @@ pub demand-1-put-record : (record-bytes room : List ℕ) → putCode record-byte
 demand-1-put-record record-bytes room refused = refused-put record-bytes room refused
 
 -- # Demand 2
+--
+-- "A command is taken exactly when the CRISP guide's tables and our rules allow it. Otherwise it gets the one code that stands first in the order of
+-- checks, with the sender's own line number. Commands and status frames can be written as well as read, and come back equal."
 
 -- "A command is taken exactly when the CRISP guide's tables and our rules allow it."
--- `commandChecks` are rows 8 to 19 in their order, and `bytesChecks` rows 1 to 19; the guide's tables are in wire, specs/Table. On a sound bench a command is
--- accepted and takes its effect exactly when no row holds. (Every bench that can be reached is sound: see the end of this file.)
+-- `commandChecks` are rows 8 to 19 in their order, and `bytesChecks` rows 1 to 19; the guide's tables are in wire, specs/Table. On a sound bench a
+-- command is accepted and takes its effect exactly when no row holds. (Every bench that can be reached is sound: see the end of this file.)
 pub demand-2-taken : (b : Bench) → benchSound b ≡ true → (c : Command)
     → (carryOut b c ≡ record { told = toldWith 0 0; bench = effectOf b c }) ↔ NoneDue (commandChecks b c)
 demand-2-taken b sound c = rows.command-taken b sound c
@@ -150,7 +152,7 @@ demand-2-command b sound c = rows.command-order b sound c
 pub demand-2-bytes : (b : Bench) → benchSound b ≡ true → (s : List ℕ) → Order (bytesChecks b s) (carryOutBytes b s .told .code)
 demand-2-bytes b sound s = rows.bytes-order b sound s
 
--- The parameter beside it is 1 or 2 exactly with code 8, 2 only where the first argument is in range, and else 0: that is `Names`.
+-- The parameter beside it is 1 or 2 exactly with code 8, 2 only where the first argument is in range, and else 0: that is `Names` (Parameter).
 pub demand-2-parameter : (b : Bench) (c : Command) → Names (firstHolds c) (secondHolds c) (carryOut b c .told)
 demand-2-parameter b c = command-names b c
 
@@ -158,8 +160,8 @@ pub demand-2-parameter-bytes : (b : Bench) (s : List ℕ) → Names (firstHolds 
 demand-2-parameter-bytes b s = bytes-names b s
 
 -- "with the sender's own line number."
--- In the room after a run that was carried out, record k + 1 of a sender carries that sender, the verdict on the command at place k of that sender's own list,
--- as carrying it out gives it in the state that the commands before it left, and the number k + 1.
+-- In the room after a run that was carried out, record k + 1 of a sender carries that sender, the verdict on the command at place k of that sender's
+-- own list, as carrying it out gives it in the state that the commands before it left, and the number k + 1.
 pub demand-2-kit : (b : Bench) → GoodBench b → (kit pupil room : List ℕ) → runOf b kit pupil room .code ≡ 0 → (k : ℕ) → k < length (rests kit)
     → Carries (recordAt (roomAfter b kit pupil room) k) 1 (carryOutBytes (after b (map bytes (take k (rests kit)))) (restAt kit k) .told) (k + 1)
 demand-2-kit b good kit pupil room accepted k there =
@@ -173,7 +175,7 @@ demand-2-pupil b good kit pupil room accepted k there =
     rw (pupil-record b kit pupil room accepted k there, pupil-verdict b good kit pupil k)
     (record-carries 2 (carryOutBytes (after b (map bytes (rests kit ++ take k (rests pupil)))) (restAt pupil k) .told) (k + 1))
 
--- So the parameter byte of every record, byte 2, says what it says of that command, with the code in byte 1.
+-- So the parameter in byte 2 of every record says of that command what it should beside the code in byte 1.
 abbrev RecordNames : List ℕ → List ℕ → Type 0
 RecordNames record-bytes s = Names (firstHolds (said s)) (secondHolds (said s)) (toldWith (byteAt record-bytes 1) (byteAt record-bytes 2))
 
@@ -190,22 +192,24 @@ demand-2-parameter-pupil b good kit pupil room accepted k there =
     rw (carries .code, carries .par) (bytes-names (after b (map bytes (rests kit ++ take k (rests pupil)))) (restAt pupil k))
 
 -- The bytes shown for a sender and number are the very bytes that the record judged: alone they get the same verdict and leave the same bench.
-pub demand-2-shown : (kit pupil : List ℕ) → length kit ≤ 4096 → length pupil ≤ 4096 → (b : Bench) → benchSound b ≡ true → (sender k : ℕ)
+pub shown-are-judged : (kit pupil : List ℕ) → length kit ≤ 4096 → length pupil ≤ 4096 → (b : Bench) → benchSound b ≡ true → (sender k : ℕ)
     → carryOutBytes b (shownOf kit pupil sender (k + 1)) ≡ carryOutBytes b (restAt (listOf kit pupil sender) k)
-demand-2-shown kit pupil kit-short pupil-short b sound sender k =
+shown-are-judged kit pupil kit-short pupil-short b sound sender k =
     sym (sound-bytes b (shownOf kit pupil sender (k + 1)) sound)
     ∙ shown-judged kit pupil kit-short pupil-short b sender k
     ∙ sound-bytes b (restAt (listOf kit pupil sender) k) sound
 
 -- "Commands and status frames can be written as well as read, and come back equal."
--- A command that was written is read back from the room, whatever stands behind it. (`Held`, `Bytes`: numbers within their widths, as every program's are.)
+-- A command that was written is read back from the room, whatever stands behind it. (`Held`, `Bytes`: numbers within their widths, as every
+-- program's are.)
 pub demand-2-command-back : (c : Command) → Held c → (room : List ℕ) → writing.wroteAt c room .told .code ≡ 0
     → readOf (writing.roomAfter c room) ≡ answerOf (Reading.Taken c)
 unfolding writing.wroteAt
 demand-2-command-back c held room done = commands.write-then-read c held room done
 
 -- A command that was read is written as the 4L bytes that it was read from, into any room that has so many, and the rest of the room stays.
-pub demand-2-command-again : (s : List ℕ) → Bytes s → (c : Command) → readOf s ≡ answerOf (Reading.Taken c) → (room : List ℕ) → lengthOf s * 4 ≤ length room
+pub demand-2-command-again : (s : List ℕ) → Bytes s → (c : Command) → readOf s ≡ answerOf (Reading.Taken c)
+    → (room : List ℕ) → lengthOf s * 4 ≤ length room
     → (writing.wroteAt c room ≡ record { told = toldWith 0 0; bytes = lengthOf s * 4 })
     × (writing.roomAfter c room ≡ take (lengthOf s * 4) s ++ drop (lengthOf s * 4) room)
 demand-2-command-again s are c read room enough = command-again s are c read room enough
@@ -219,6 +223,11 @@ pub demand-2-frame-again : (s : List ℕ) → Bytes s → (f : Frame) → frames
 demand-2-frame-again s are f read room enough = frame-again s are f read room enough
 
 -- # Demand 3
+--
+-- "Start a closed macro on an idle bench in any state reached from a fresh one, however deeply it starts others. Unless a stop command is accepted
+-- meanwhile, second k hands over entry k of its written-out list, whichever other commands arrive between the seconds. It is busy until that list has
+-- ended, then idle until a macro is started again. The length is between 1 and 600 seconds, and the seconds left in the status frame, taken as
+-- second k ends, are that length less k, for k up to it."
 
 -- What a bench says, and the bytes of the status frame that it shows: macro m runs, or none where m is 255, and n seconds are left.
 pub record Says (b : Bench) (m n : ℕ) : Type 0 where
@@ -233,7 +242,7 @@ pub record Hands (b : Bench) (ks : List Kind) : Type 0 where
   pub code : secondAt b .told .code ≡ 0
   pub handed : secondAt b .handed ≡ ks
 
--- An idle bench: no macro runs, no second is left, and none hands over anything.
+-- An idle bench: no macro runs, no second is left, and the next second hands over nothing.
 pub record Idle (b : Bench) : Type 0 where
   pub says : Says b 255 0
   pub hands : Hands b []
@@ -249,23 +258,25 @@ entry w k = getD w (k - 1) []
 
 -- What is demanded of a run of macro m, whose written-out list was w as it started.
 pub record Demand3 (m : ℕ) (w : List (List Kind)) (start : Bench) : Type 0 where
-  -- "Unless a stop command is accepted meanwhile, second k hands over entry k of its written-out list, whichever other commands arrive between the seconds."
+  -- "Unless a stop command is accepted meanwhile, second k hands over entry k of its written-out list, whichever other commands arrive between the
+  -- seconds."
   pub hands : (k : ℕ) (es : List Event) → UpTo k start es → k ≤ length w → Hands (after start es) (entry w k)
-  -- "It is busy until that list has ended," up to second k it runs, and the seconds from k on are left.
+  -- "It is busy until that list has ended,": up to second k it runs, and the seconds from k on are left.
   pub busy : (k : ℕ) (es : List Event) → UpTo k start es → k ≤ length w → Says (after start es) m (length w - (k - 1))
-  -- "then idle until a macro is started again." Whatever events follow the last second, STOPs too, as long as no RUN is accepted.
+  -- "then idle until a macro is started again.": whatever events follow the last second, STOPs too, as long as no RUN is accepted.
   pub idle : (es : List Event) → UpTo (length w) start es → let last = after start (es ++ (second ∷ [])) in
       (later : List Event) → acceptsAny isRun last later ≡ false → Idle (after last later)
   -- "The length is between 1 and 600 seconds,"
   pub least : 1 ≤ length w
   pub most : length w ≤ 600
-  -- "and the seconds left in the status frame, taken as second k ends, are that length less k, for k up to it." m runs, or none once the list has ended.
+  -- "and the seconds left in the status frame, taken as second k ends, are that length less k, for k up to it.": m runs, or none once the list has
+  -- ended.
   pub ends : (k : ℕ) (es : List Event) → UpTo k start es → k ≤ length w
       → Says (after start (es ++ (second ∷ []))) (cond (ltb k (length w)) m 255) (length w - k)
 
 -- "Start a closed macro on an idle bench in any state reached from a fresh one, however deeply it starts others."
--- The bench is any that is reached, idle, with macro m closed, whatever m's entries start. Then RUN m is accepted, as a decoded command (`runCommand m`:
--- flag 0, RUN m) and from any bytes that read as it, and the bench that comes back runs m's written-out list as demanded.
+-- The bench is any that is reached, idle, with macro m closed, whatever m's entries start. Then RUN m is accepted, as a decoded command
+-- (`runCommand m`: flag 0, RUN m) and from any bytes that read as it, and the bench that comes back runs m's written-out list as demanded.
 pub record Started (m : ℕ) (w : List (List Kind)) (outcome : Outcome) : Type 0 where
   pub accepted : outcome .told .code ≡ 0
   pub run : Demand3 m w (outcome .bench)
@@ -317,11 +328,9 @@ started : (b : Bench) → Reached b → b .store .running ≡ 255 → (m : ℕ) 
 started b r free m closed =
     let good = reached-sound b r in
     let lasts = closed-lasts (b .store) (good-store b good) m closed in
-    record {
-      accepted = refl;
-      run =
-          runs m (writtenOut (b .store) m) (effectOf b (runCommand m)) (begun-sound b good free m closed) (run-begins b good free m closed) (lasts .most);
-    }
+    let start = effectOf b (runCommand m) in
+    let going = run-begins b good free m closed in
+    record { accepted = refl; run = runs m (writtenOut (b .store) m) start (begun-sound b good free m closed) going (lasts .most) }
 
 -- The claims.
 pub demand-3-command : (b : Bench) → Reached b → b .store .running ≡ 255 → (m : ℕ) → isClosed (b .store) m ≡ true
@@ -352,8 +361,8 @@ demand-3-idle b good free es none = idles (after b es) (after-keeps b good es) (
 
 -- # What the demands speak of: reached states, and runs
 
--- "A state reached from a fresh one is always sound": a fresh bench is, each event (a command, decoded or from bytes, a second, a run) keeps it, and so
--- every reached bench is. (`GoodBench b`: the test of 27 passes, and the arrays of the store have their lengths, as every program's have.)
+-- "A state reached from a fresh one is always sound.": a fresh bench is, each event (a command, decoded or from bytes, a second, a run) keeps it, and
+-- so every reached bench is. (`GoodBench b`: the test of 27 passes, and the arrays of the store have their lengths, as every program's have.)
 pub fresh-is-sound : GoodBench freshBench
 fresh-is-sound = fresh-sound
 
@@ -386,8 +395,8 @@ sound-answers b good =
       status-read = read-written (statusOf b) (status-rules b good);
     }
 
--- A run is an event of its own, and no more than its commands, one after another, each an event from bytes (none where the run is refused): it leaves what
--- they leave, and a RUN or a STOP is accepted in it exactly when one of them is.
+-- A run is an event of its own, and no more than its commands, one after another, each an event from bytes (none where the run is refused): it leaves
+-- what they leave, and a RUN or a STOP is accepted in it exactly when it is accepted among them.
 pub run-is-its-commands : (b : Bench) → GoodBench b → (kit pupil room : List ℕ)
     → (runOf b kit pupil room .bench ≡ after b (eventsOf b kit pupil room))
     × ((test : Role → Bool) → accepts test b (run kit pupil room) ≡ acceptsAny test b (eventsOf b kit pupil room))

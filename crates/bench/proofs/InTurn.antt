@@ -33,7 +33,8 @@ pub both-left : (b : Bench) (kit pupil : List ℕ) → pupilPart b kit pupil .be
 both-left b kit pupil = list-leaves (kitPart b kit .bench) 2 1 (rests pupil) ∙ kit-then b kit (rests pupil)
 
 -- So a run that is carried out leaves what its commands leave.
-pub run-left : (b : Bench) (kit pupil room : List ℕ) → runOf b kit pupil room .code ≡ 0 → runOf b kit pupil room .bench ≡ leftBy b (rests kit ++ rests pupil)
+pub run-left : (b : Bench) (kit pupil room : List ℕ) → runOf b kit pupil room .code ≡ 0
+    → runOf b kit pupil room .bench ≡ leftBy b (rests kit ++ rests pupil)
 unfolding runOf
 run-left b kit pupil room accepted = rw accepted (both-left b kit pupil)
 

@@ -5,14 +5,14 @@ use mathlib.Core.List.{List, [], _∷_, _++_}
 use mathlib.Core.Bool.{Bool, true, false, cond}
 use native.Mathlib.Omega.{arith}
 use lib.ListN.{length, getD}
-use lib.Dec.{ltb, eqb}
+use lib.Dec.{ltb}
 use borrow.Author.Tests.{ltb-true, ltb-false, le-ltb, le-leb, eq-eqb}
 use Rattle.words.proofs.Tests.{neither}
 use Rattle.wire.specs.declared.kinds.Kind.{Kind}
 use Rattle.wire.specs.declared.kinds.Command.{Command}
 use Rattle.wire.specs.declared.decoding.Reading.{Reading}
 use Rattle.wire.specs.Judge.{toldWith, judgeCode}
-use Rattle.wire.specs.Read.{Answer, answerOf, readCode, readOf}
+use Rattle.wire.specs.Read.{answerOf, readOf}
 use Rattle.walk.specs.Walk.{rests}
 use Rattle.store.specs.declared.roles.Role.{Role}
 use Rattle.store.specs.declared.Store.{Store}
@@ -176,10 +176,11 @@ module _ (b : Bench) (good : GoodBench b) (kit pupil room : List ℕ) (carried :
   run-begins-within free m closed read none =
       let w = writtenOut (there .store) m in
       let sound = left-good b good before in
-      let starts : taken there s ≡ begun there sound free m closed = sound-bytes there s (sound .sound) ∙ run-accepted-bytes there sound free m closed s read in
-      let first : Runs m w 0 (taken there s .bench) = rw starts (run-begins there sound free m closed) in
-      let all : leftBy b (rests kit ++ rests pupil) ≡ leftBy (taken there s .bench) behind = ap (leftBy b) stands ∙ sym (left-append b before (s ∷ behind)) in
-      let last = turns-keep isStop (Runs m w 0) (effect-stays m w 0) (taken there s .bench) (taken-good there sound s) first behind none in
+      let start = taken there s .bench in
+      let starts = sound-bytes there s (sound .sound) ∙ run-accepted-bytes there sound free m closed s read in
+      let first : Runs m w 0 start = rw starts (run-begins there sound free m closed) in
+      let last = turns-keep isStop (Runs m w 0) (effect-stays m w 0) start (taken-good there sound s) first behind none in
+      let all : leftBy b (rests kit ++ rests pupil) ≡ leftBy start behind = ap (leftBy b) stands ∙ sym (left-append b before (s ∷ behind)) in
       subst (Runs m w 0) (sym (run-left b kit pupil room carried ∙ all)) last
 
 -- A macro that was started, and events up to second k with no STOP accepted: what that second hands over, and what it leaves.

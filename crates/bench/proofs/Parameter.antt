@@ -33,7 +33,7 @@ secondHolds c =
     let row = rowOf (parts .form) in
     inLimits (row .layout) (row .low2) (row .high2) (parts .second)
 
--- The parameter is 1 or 2 exactly with code 8, and else 0. 1 says that the first argument is out of range; 2 that the second is, and the first is not.
+-- The parameter is 1 or 2 exactly with code 8, and else 0. 1 says that the first argument is out of range, 2 that the second is and the first is not.
 pub record Names (first-holds second-holds : Bool) (told : Told) : Type 0 where
   pub named : (told .code ≡ 8) ↔ ((told .par ≡ 1) ⊎ (told .par ≡ 2))
   pub else-0 : told .code ≢ 8 → told .par ≡ 0
@@ -82,7 +82,8 @@ abbrev eightDue : List Check → Bool
 eightDue [] = false
 eightDue (c ∷ cs) = (eqb (c .code) 8 && c .due) || eightDue cs
 
-eight-row : (code : ℕ) (due : Bool) (rest : ℕ) (later : Bool) → cond due code rest ≡ 8 → (rest ≡ 8 → later ≡ true) → ((eqb code 8 && due) || later) ≡ true
+eight-row : (code : ℕ) (due : Bool) (rest : ℕ) (later : Bool) → cond due code rest ≡ 8 → (rest ≡ 8 → later ≡ true)
+    → ((eqb code 8 && due) || later) ≡ true
 eight-row code true rest later e more = rw e
 eight-row code false rest later e more = go (eqb code 8)
   where

@@ -1,5 +1,6 @@
--- 01, "Two lists, one report", for a moderator to read: where each record stands and what it carries, that a run is its commands carried out one after
--- another, that a refused run leaves everything, and that the bytes shown for a record are those it judged. Places k count from 0, numbers are k + 1.
+-- 01, "Two lists, one report", for a moderator to read: where each record stands and what it carries, that a run is its commands carried out one
+-- after another, that a refused run leaves everything, and that the bytes shown for a record are those it judged. Places k count from 0, numbers are
+-- k + 1.
 use Prim.Native.Nat.{ℕ, zero, suc, _+_, _*_, _≤_, _<_}
 use mathlib.Core.Path.{_≡_, refl, sym, ap, _∙_}
 use mathlib.Core.List.{List, [], _∷_, _++_, append-assoc, map}
@@ -207,7 +208,8 @@ takes-after test b good (r ∷ rs) =
 module _ (b : Bench) (good : GoodBench b) (kit pupil : List ℕ) where
   told-after : (rs : List (List ℕ)) (r : List ℕ) → taken (leftBy b rs) r .told ≡ carryOutBytes (after b (map bytes rs)) r .told
   told-after rs r =
-      ap (λ (o : Outcome). o .told) (sound-bytes (leftBy b rs) r (left-good b good rs .sound)) ∙ ap (λ c. carryOutBytes c r .told) (left-after b good rs)
+      ap (λ (o : Outcome). o .told) (sound-bytes (leftBy b rs) r (left-good b good rs .sound))
+      ∙ ap (λ c. carryOutBytes c r .told) (left-after b good rs)
 
   -- Each command's verdict is that of carrying it out in the state that the commands before it left.
   pub kit-verdict : (k : ℕ) → verdictAt b kit k ≡ carryOutBytes (after b (map bytes (take k (rests kit)))) (restAt kit k) .told
@@ -216,7 +218,8 @@ module _ (b : Bench) (good : GoodBench b) (kit pupil : List ℕ) where
   pub pupil-verdict : (k : ℕ)
       → verdictAt (kitPart b kit .bench) pupil k ≡ carryOutBytes (after b (map bytes (rests kit ++ take k (rests pupil)))) (restAt pupil k) .told
   pupil-verdict k =
-      ap (λ c. taken c (restAt pupil k) .told) (kit-then b kit (take k (rests pupil))) ∙ told-after (rests kit ++ take k (rests pupil)) (restAt pupil k)
+      ap (λ c. taken c (restAt pupil k) .told) (kit-then b kit (take k (rests pupil)))
+      ∙ told-after (rests kit ++ take k (rests pupil)) (restAt pupil k)
 
   -- Two lists leave exactly the state of carrying out their commands one after another.
   pub lists-leave : pupilPart b kit pupil .bench ≡ after b (commandsOf kit pupil)

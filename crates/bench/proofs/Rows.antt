@@ -1,5 +1,5 @@
--- The rows of 01's codes as each call tries them. Carrying out tries, on a sound bench, rows 8 to 19 or, from bytes, 1 to 19, whose codes rise; on any
--- other bench row 27 is the first. The other calls of a bench follow.
+-- The rows of 01's codes as each call tries them. Carrying out tries, on a sound bench, rows 8 to 19 or, from bytes, 1 to 19, whose codes rise; on
+-- any other bench row 27 is the first. The other calls of a bench follow, and the writer of its records.
 use Prim.Native.Nat.{ℕ, _≤_}
 use mathlib.Core.Path.{_≡_, refl, sym, ap, subst}
 use mathlib.Core.Logic.{_↔_, _≢_}
@@ -60,19 +60,6 @@ command-order b sound c = subst (Order (commandChecks b c)) (sym (command-code b
 pub bytes-order : (b : Bench) → benchSound b ≡ true → (s : List ℕ) → Order (bytesChecks b s) (carryOutBytes b s .told .code)
 bytes-order b sound s = subst (Order (bytesChecks b s)) (sym (bytes-code b s sound)) (order (bytesChecks b s) (bytes-rise b s .0))
 
--- Where no row holds the command is taken: code 0, and its effect.
-pub command-taken : (b : Bench) → benchSound b ≡ true → (c : Command) → (carryOut b c ≡ takenAs b c) ↔ NoneDue (commandChecks b c)
-unfolding carryOut
-command-taken b sound c =
-    let rows = command-order b sound c .accepted in
-    (λ e. rows .0 (ap (λ (o : Outcome). o .told .code) e), λ none. ap (λ n. outcomeFor n b c) (rows .1 none))
-
-pub bytes-taken : (b : Bench) → benchSound b ≡ true → (s : List ℕ) → (carryOutBytes b s ≡ takenAs b (said s)) ↔ NoneDue (bytesChecks b s)
-unfolding carryOutBytes
-bytes-taken b sound s =
-    let rows = bytes-order b sound s .accepted in
-    (λ e. rows .0 (ap (λ (o : Outcome). o .told .code) e), λ none. ap (λ n. outcomeFor n b (said s)) (rows .1 none))
-
 first-upTo : (n : ℕ) (cs : List Check) → upTo n cs ≡ true → firstOf cs ≤ n
 first-upTo n [] h = omega arith
 first-upTo n (c ∷ cs) h =
@@ -89,6 +76,19 @@ command-most b sound c = rw (command-code b c sound) (first-upTo 19 (commandChec
 pub bytes-most : (b : Bench) → benchSound b ≡ true → (s : List ℕ) → carryOutBytes b s .told .code ≤ 19
 bytes-most b sound s = rw (bytes-code b s sound) (first-upTo 19 (bytesChecks b s) (bytes-rise b s .1))
 
+-- Where no row holds the command is taken: code 0, and its effect.
+pub command-taken : (b : Bench) → benchSound b ≡ true → (c : Command) → (carryOut b c ≡ takenAs b c) ↔ NoneDue (commandChecks b c)
+unfolding carryOut
+command-taken b sound c =
+    let rows = command-order b sound c .accepted in
+    (λ e. rows .0 (ap (λ (o : Outcome). o .told .code) e), λ none. ap (λ n. outcomeFor n b c) (rows .1 none))
+
+pub bytes-taken : (b : Bench) → benchSound b ≡ true → (s : List ℕ) → (carryOutBytes b s ≡ takenAs b (said s)) ↔ NoneDue (bytesChecks b s)
+unfolding carryOutBytes
+bytes-taken b sound s =
+    let rows = bytes-order b sound s .accepted in
+    (λ e. rows .0 (ap (λ (o : Outcome). o .told .code) e), λ none. ap (λ n. outcomeFor n b (said s)) (rows .1 none))
+
 -- On a bench that is not sound row 27 is the first.
 pub command-unsound : (b : Bench) → benchSound b ≡ false → (c : Command) → carryOut b c .told .code ≡ 27
 command-unsound b e c = ap (λ (o : Outcome). o .told .code) (sym (unsound b c e))
@@ -96,10 +96,18 @@ command-unsound b e c = ap (λ (o : Outcome). o .told .code) (sym (unsound b c e
 pub bytes-unsound : (b : Bench) → benchSound b ≡ false → (s : List ℕ) → carryOutBytes b s .told .code ≡ 27
 bytes-unsound b e s = ap (λ (o : Outcome). o .told .code) (sym (unsound-bytes b s e))
 
--- A second and the status have row 27 alone.
+-- A second and the status have row 27 alone; a second that gets it leaves the bench and hands over nothing.
 pub second-order : (b : Bench) → Order (soundCheck b ∷ []) (secondAt b .told .code)
 unfolding secondAt
 second-order b = order (soundCheck b ∷ []) refl
+
+pub second-refused : (b : Bench) → secondAt b .told .code ≢ 0 → (secondAt b .bench ≡ b) × (secondAt b .handed ≡ [])
+unfolding secondAt
+second-refused b refused = go (benchSound b) refl
+  where
+    go : (t : Bool) → benchSound b ≡ t → (secondAt b .bench ≡ b) × (secondAt b .handed ≡ [])
+    go true e = absurd (refused (rw e))
+    go false e = (rw e, rw e)
 
 pub status-order : (b : Bench) → Order (soundCheck b ∷ []) (statusAt b .code)
 unfolding statusAt

@@ -152,7 +152,8 @@ read-accepted b s zero =
     record { judge = read-allowed s (parts .0); permit = parts .1 }
 
 -- It keeps a bench sound.
-camera-after : (b : Bench) → GoodCamera (b .camera) → (c : Command) → judgeCode c ≡ 0 → (flag : Bool) → c .flag ≡ flag → GoodCamera (effectOf b c .camera)
+camera-after : (b : Bench) → GoodCamera (b .camera) → (c : Command) → judgeCode c ≡ 0 → (flag : Bool) → c .flag ≡ flag
+    → GoodCamera (effectOf b c .camera)
 camera-after b good c judge true e = rw e good
 camera-after b good c judge false e = rw e (executed-good (b .camera) good (c .flag) (c .kind) judge)
 
@@ -212,9 +213,10 @@ second-is b good = rw (good .sound)
 second-sound : (b : Bench) → GoodBench b → GoodBench (benchAfter b)
 second-sound b good =
     let h = facts-of b good in
+    let plain = handed-plainly (b .store) (h .store) in
     of-facts (benchAfter b)
     (record {
-      camera = handed-good (cameraSecond (b .camera)) (camera-second (b .camera) (h .camera)) (nextEntry (b .store)) (handed-plainly (b .store) (h .store));
+      camera = handed-good (cameraSecond (b .camera)) (camera-second (b .camera) (h .camera)) (nextEntry (b .store)) plain;
       store = second-keeps (b .store) (h .store);
     })
 

@@ -38,8 +38,8 @@ module _ (b : Bench) (kit pupil room : List ℕ) where
   refused-run begun r is other code = rw (is, code, other) (refl, refl)
 
   -- The records of both lists have room, and the kit's list was carried out with m of them.
-  module _ (fits : (length (rests kit) + length (rests pupil)) * 8 ≤ length room) {m : ℕ} {b₁ : Bench} {room₁ : List ℕ} (m-is : m ≡ length (rests kit))
-      (b₁-is : b₁ ≡ kitPart b kit .bench) (room₁-is : room₁ ≡ written (kitPart b kit .records) room) where
+  module _ (fits : (length (rests kit) + length (rests pupil)) * 8 ≤ length room) {m : ℕ} {b₁ : Bench} {room₁ : List ℕ}
+      (m-is : m ≡ length (rests kit)) (b₁-is : b₁ ≡ kitPart b kit .bench) (room₁-is : room₁ ≡ written (kitPart b kit .records) room) where
     abbrev first : List ℕ
     first = kitPart b kit .records
 

@@ -1,4 +1,5 @@
--- 01, "What each promise answers for": two results that one promise allows are equal. The numbers and values that 01 gives to an answer say which it was.
+-- 01, "What each promise answers for": two results that one promise allows are equal. The numbers and values that 01 gives to an answer say which it
+-- was.
 use Prim.Native.Nat.{ℕ}
 use mathlib.Core.Path.{_≡_, refl, sym, ap, _∙_}
 use mathlib.Core.List.{[], _∷_}

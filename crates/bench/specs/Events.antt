@@ -36,7 +36,7 @@ pub record Reached (b : Bench) : Type 0 where
   pub events : List Event
   pub reached : after freshBench events ≡ b
 
--- How many seconds pass: none in a run.
+-- How many seconds pass: each is an event of its own, and a run takes none.
 abbrev pub secondsIn : List Event → ℕ
 secondsIn [] = zero
 secondsIn (command c ∷ es) = secondsIn es
@@ -57,16 +57,16 @@ isStop Role.Clear = false
 abbrev pub executes : (Role → Bool) → Command → Bool
 executes test c = not (c .flag) && test (roleOf (c .kind))
 
--- Is it, and did it get code 0?
+-- Is it one, and was it accepted with code 0?
 abbrev pub takes : (Role → Bool) → ℕ → Command → Bool
 takes test code c = eqb code 0 && executes test c
 
--- Does one of the commands of a run? Each is given as it finds its list, and taken on the bench that the ones before it left.
+-- Is one of the commands of a run? Each is given as it finds its list, and is taken on the bench that the ones before it left.
 abbrev pub takesAny : (Role → Bool) → Bench → List (List ℕ) → Bool
 takesAny test b [] = false
 takesAny test b (r ∷ rs) = takes test (taken b r .told .code) (said r) || takesAny test (taken b r .bench) rs
 
--- Does this event bring a command that executes such a role, and is it accepted? A run that is refused brings none.
+-- Does this event bring an accepted command that executes such a role? A run that is refused brings none.
 abbrev pub accepts : (Role → Bool) → Bench → Event → Bool
 accepts test b (command c) = takes test (carryCode b c) c
 accepts test b (bytes s) = takes test (carryBytesCode b s) (said s)
