@@ -1,7 +1,7 @@
 -- The three demands, word for word, and under every clause of them the theorems that carry it. The theorems speak of the meanings that the promises
 -- in src/ name: what `carry_out` answers is `carryOut`, `carry_out_bytes` `carryOutBytes`, `second` `secondAt`, `status` `statusAt`, and `run`
 -- `runOf` with the room `roomAfter` (specs/Carry, Second, Status, Run). What can happen to a bench is a list of events: commands, seconds and runs
--- (specs/Events). Read the statements here; what they rest on is proved in Rows, Parameter, Back, Sound, MacroRun and Report.
+-- (specs/Events). Read the statements here; what they rest on is proved in Rows, Back, Sound, MacroRun and Report, and in the crates below.
 use Prim.Native.Nat.{ℕ, _+_, _*_, _-_, _≤_, _<_}
 use mathlib.Core.Path.{_≡_, refl, sym, _∙_}
 use mathlib.Core.Logic.{_↔_, _≢_}
@@ -23,6 +23,7 @@ use Rattle.wire.proofs.Order.{NoneDue, Order, read-order, write-order}
 use Rattle.wire.proofs.Front.{Bytes}
 use Rattle.wire.proofs.RoundTrip.{Held}
 use Rattle.wire.proofs.Calls as commands
+use Rattle.wire.proofs.Parameters.{Parameter}
 use Rattle.frame.specs.declared.Frame.{Frame}
 use Rattle.frame.specs.Bytes.{frameBytes}
 use Rattle.frame.specs.Answers as frames
@@ -30,8 +31,8 @@ use Rattle.frame.proofs.Order as frame-order
 use Rattle.frame.proofs.Answers.{takenAs}
 use Rattle.frame.proofs.RoundTrip.{running-byte, left-bytes, read-written}
 use Rattle.frame.proofs.Calls as frame-calls
-use Rattle.report.specs.Record.{putCode}
-use Rattle.report.proofs.Calls.{refused-put}
+use Rattle.report.specs.Record.{recordBytes, putCode}
+use Rattle.report.proofs.Calls as records
 use Rattle.walk.specs.Walk.{rests}
 use Rattle.walk.specs.Shown.{listOf, shownOf}
 use Rattle.store.specs.declared.roles.Role.{Role}
@@ -46,7 +47,6 @@ use Rattle.bench.specs.Second.{secondAt}
 use Rattle.bench.specs.Run.{runChecks, runOf, roomAfter}
 use Rattle.bench.specs.Events.{Event, bytes, second, run, afterOne, after, Reached, secondsIn, isStop, takesAny, accepts, acceptsAny}
 use Rattle.bench.proofs.Rows as rows
-use Rattle.bench.proofs.Parameter.{firstHolds, secondHolds, Names, command-names, bytes-names}
 use Rattle.bench.proofs.Back.{command-again, frame-again}
 use Rattle.bench.proofs.InTurn.{leftBy}
 use Rattle.bench.proofs.Sound.{GoodBench, good-store, left-good, fresh-sound, event-keeps, after-keeps, reached-sound}
@@ -120,13 +120,14 @@ demand-1-run b kit pupil room refused = refused-leaves b kit pupil room refused
 -- words and of text are with theirs.
 pub demand-1-write-command : (c : Command) (room : List ℕ) → writing.wroteAt c room .told .code ≢ 0 → writing.roomAfter c room ≡ room
 unfolding writing.wroteAt
-demand-1-write-command c room refused = commands.refused-write c room refused
+demand-1-write-command c room refused = commands.refused-leaves c room refused
 
 pub demand-1-write-frame : (f : Frame) (room : List ℕ) → frames.writeCode f room ≢ 0 → frames.roomAfter f room ≡ room
-demand-1-write-frame f room refused = frame-calls.refused-write f room refused
+demand-1-write-frame f room refused = frame-calls.refused-leaves f room refused
 
-pub demand-1-put-record : (record-bytes room : List ℕ) → putCode record-bytes room ≢ 0 → written record-bytes room ≡ room
-demand-1-put-record record-bytes room refused = refused-put record-bytes room refused
+pub demand-1-put-record : (sender code par number : ℕ) (room : List ℕ) → putCode (recordBytes sender code par number) room ≢ 0
+    → written (recordBytes sender code par number) room ≡ room
+demand-1-put-record sender code par number room refused = records.refused-leaves sender code par number room refused
 
 -- # Demand 2
 --
@@ -152,12 +153,13 @@ demand-2-command b sound c = rows.command-order b sound c
 pub demand-2-bytes : (b : Bench) → benchSound b ≡ true → (s : List ℕ) → Order (bytesChecks b s) (carryOutBytes b s .told .code)
 demand-2-bytes b sound s = rows.bytes-order b sound s
 
--- The parameter beside it is 1 or 2 exactly with code 8, 2 only where the first argument is in range, and else 0: that is `Names` (Parameter).
-pub demand-2-parameter : (b : Bench) (c : Command) → Names (firstHolds c) (secondHolds c) (carryOut b c .told)
-demand-2-parameter b c = command-names b c
+-- The parameter beside it is 1 or 2 exactly with code 8, 2 only where the first argument is in range, and else 0: that is `Parameter` (wire,
+-- proofs/Parameters).
+pub demand-2-parameter : (b : Bench) (c : Command) → Parameter c (carryOut b c .told)
+demand-2-parameter b c = rows.command-parameter b c
 
-pub demand-2-parameter-bytes : (b : Bench) (s : List ℕ) → Names (firstHolds (said s)) (secondHolds (said s)) (carryOutBytes b s .told)
-demand-2-parameter-bytes b s = bytes-names b s
+pub demand-2-parameter-bytes : (b : Bench) (s : List ℕ) → Parameter (said s) (carryOutBytes b s .told)
+demand-2-parameter-bytes b s = rows.bytes-parameter b s
 
 -- "with the sender's own line number."
 -- In the room after a run that was carried out, record k + 1 of a sender carries that sender, the verdict on the command at place k of that sender's
@@ -176,20 +178,20 @@ demand-2-pupil b good kit pupil room accepted k there =
     (record-carries 2 (carryOutBytes (after b (map bytes (rests kit ++ take k (rests pupil)))) (restAt pupil k) .told) (k + 1))
 
 -- So the parameter in byte 2 of every record says of that command what it should beside the code in byte 1.
-abbrev RecordNames : List ℕ → List ℕ → Type 0
-RecordNames record-bytes s = Names (firstHolds (said s)) (secondHolds (said s)) (toldWith (byteAt record-bytes 1) (byteAt record-bytes 2))
+abbrev ParameterIn : List ℕ → List ℕ → Type 0
+ParameterIn record-bytes s = Parameter (said s) (toldWith (byteAt record-bytes 1) (byteAt record-bytes 2))
 
 pub demand-2-parameter-kit : (b : Bench) → GoodBench b → (kit pupil room : List ℕ) → runOf b kit pupil room .code ≡ 0
-    → (k : ℕ) → k < length (rests kit) → RecordNames (recordAt (roomAfter b kit pupil room) k) (restAt kit k)
+    → (k : ℕ) → k < length (rests kit) → ParameterIn (recordAt (roomAfter b kit pupil room) k) (restAt kit k)
 demand-2-parameter-kit b good kit pupil room accepted k there =
     let carries = demand-2-kit b good kit pupil room accepted k there in
-    rw (carries .code, carries .par) (bytes-names (after b (map bytes (take k (rests kit)))) (restAt kit k))
+    rw (carries .code, carries .par) (rows.bytes-parameter (after b (map bytes (take k (rests kit)))) (restAt kit k))
 
 pub demand-2-parameter-pupil : (b : Bench) → GoodBench b → (kit pupil room : List ℕ) → runOf b kit pupil room .code ≡ 0
-    → (k : ℕ) → k < length (rests pupil) → RecordNames (recordAt (roomAfter b kit pupil room) (length (rests kit) + k)) (restAt pupil k)
+    → (k : ℕ) → k < length (rests pupil) → ParameterIn (recordAt (roomAfter b kit pupil room) (length (rests kit) + k)) (restAt pupil k)
 demand-2-parameter-pupil b good kit pupil room accepted k there =
     let carries = demand-2-pupil b good kit pupil room accepted k there in
-    rw (carries .code, carries .par) (bytes-names (after b (map bytes (rests kit ++ take k (rests pupil)))) (restAt pupil k))
+    rw (carries .code, carries .par) (rows.bytes-parameter (after b (map bytes (rests kit ++ take k (rests pupil)))) (restAt pupil k))
 
 -- The bytes shown for a sender and number are the very bytes that the record judged: alone they get the same verdict and leave the same bench.
 pub shown-are-judged : (kit pupil : List ℕ) → length kit ≤ 4096 → length pupil ≤ 4096 → (b : Bench) → benchSound b ≡ true → (sender k : ℕ)

@@ -7,7 +7,6 @@ pub mod Slips
 pub mod Unique
 pub mod UniqueRun
 pub mod Rows
-pub mod Parameter
 pub mod Camera
 pub mod Sound
 pub mod ByTally

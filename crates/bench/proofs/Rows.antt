@@ -14,14 +14,15 @@ use Rattle.wire.specs.declared.table.Found.{Found}
 use Rattle.wire.specs.declared.kinds.Command.{Command}
 use Rattle.wire.specs.Codes.{Check, _when_, firstOf}
 use Rattle.wire.specs.Table.{ruleOf}
-use Rattle.wire.specs.Judge.{toldWith}
-use Rattle.wire.specs.Read.{decodeChecks, opcodeOf, flagOf, lengthOf, thirdWord}
+use Rattle.wire.specs.Judge.{toldWith, argChecks}
+use Rattle.wire.specs.Read.{readChecks, decodeChecks, opcodeOf, flagOf, lengthOf, thirdWord}
 use Rattle.wire.proofs.Order.{NoneDue, Order, order, rising}
+use Rattle.wire.proofs.Parameters.{Parameter, RangeRow, parameter, range-args, range-read, range-none, range-append}
 use Rattle.report.specs.Record.{putCode}
 use Rattle.store.specs.Checks.{storeChecks}
 use Rattle.bench.specs.declared.Bench.{Bench}
 use Rattle.bench.specs.Status.{benchSound, soundCheck, statusAt}
-use Rattle.bench.specs.Carry.{Outcome, effectOf, outcomeFor, commandChecks, carryOut, said, bytesChecks, carryOutBytes}
+use Rattle.bench.specs.Carry.{Outcome, effectOf, outcomeFor, commandChecks, carryChecks, carryOut, said, bytesChecks, carryBytesChecks, carryOutBytes}
 use Rattle.bench.specs.Second.{secondAt}
 use Rattle.bench.specs.Run.{runChecks, runCode, runOf}
 use Rattle.bench.proofs.Outcomes.{carry-bytes-code, unsound, unsound-bytes}
@@ -123,6 +124,22 @@ run-not-27 b sound kit pupil room e =
     let due : not (benchSound b) ≡ true = run-order b kit pupil room .placed 2 (omega arith) .0 e .due in
     let never : _≡_ {A = Bool} false true = rw sound at due in
     absurd (let z : _≡_ {A = ℕ} 0 1 = cc in omega arith)
+
+-- The parameter beside the code of carrying out: no row but 8 asks for an argument's range.
+store-ranges : (b : Bench) (c : Command) → RangeRow c (storeChecks (b .store) c)
+store-ranges b c = range-none c (storeChecks (b .store) c) refl
+
+pub command-parameter : (b : Bench) (c : Command) → Parameter c (carryOut b c .told)
+unfolding carryOut
+command-parameter b c =
+    parameter c (carryChecks b c)
+    (λ e. absurd (omega arith), range-append c (argChecks c) (storeChecks (b .store) c) (range-args c) (store-ranges b c))
+
+pub bytes-parameter : (b : Bench) (s : List ℕ) → Parameter (said s) (carryOutBytes b s .told)
+unfolding carryOutBytes
+bytes-parameter b s =
+    parameter (said s) (carryBytesChecks b s)
+    (λ e. absurd (omega arith), range-append (said s) (readChecks s) (storeChecks (b .store) (said s)) (range-read s) (store-ranges b (said s)))
 
 -- A record's writer has row 24 alone.
 pub put-order : (bytes room : List ℕ) → Order (24 when not (hasRoom bytes room) ∷ []) (putCode bytes room)
