@@ -10,6 +10,7 @@ use Rattle.camera.specs.Series.{nextHolds}
 use Rattle.camera.specs.Camera.{cameraSecond}
 use Rattle.store.specs.declared.Store.{Store}
 use Rattle.store.specs.declared.Step.{Step}
+use Rattle.store.specs.declared.lookup.Handed.{Handed}
 use Rattle.store.specs.declared.tally.Survey.{Survey}
 use Rattle.store.specs.Slots.{idle}
 use Rattle.store.specs.Effects.{storeWith, handedOf, nextEntry, afterSecond}
@@ -63,6 +64,11 @@ pub no-second : (b : Bench) → benchSound b ≡ false → stayedAt b ≡ second
 unfolding secondAt
 no-second b unsound = rw unsound
 
+-- The camera of a second: each series first, then what was handed over.
+pub series-first : (camera stepped done : Camera) (handed : Handed) → stepped ≡ cameraSecond camera → done ≡ executedAll stepped (handedOf handed)
+    → done ≡ executedAll (cameraSecond camera) (handedOf handed)
+series-first camera stepped done handed series executed = executed ∙ ap (λ (k : Camera). executedAll k (handedOf handed)) series
+
 -- A second of a store tells whether the store is sound.
 step-sound : (s : Store) (step : Step) → stepOf step ≡ steppedOf s → step .sound ≡ storeSound s
 unfolding steppedOf
@@ -87,8 +93,7 @@ module _ (b : Bench) (step : Step) (rules : rulesHold b ≡ true) (stepped : ste
   pub no-step : step .sound ≡ false → stayedAt b ≡ secondAt b
   no-step e = no-second b (by-store b rules ∙ sym (step-sound (b .store) step stepped) ∙ e)
 
-  pub second-passed : (camera done : Camera) → step .sound ≡ true → camera ≡ cameraSecond (b .camera)
-      → done ≡ executedAll camera (handedOf (step .handed))
+  pub second-passed : (done : Camera) → step .sound ≡ true → done ≡ executedAll (cameraSecond (b .camera)) (handedOf (step .handed))
       → record {
         told = toldWith 0 0;
         bench = record {
@@ -98,7 +103,7 @@ module _ (b : Bench) (step : Step) (rules : rulesHold b ≡ true) (stepped : ste
         handed = handedOf (step .handed);
       } ≡ secondAt b
   unfolding secondAt steppedOf
-  second-passed camera done e series executed =
+  second-passed done e executed =
       let s = b .store in
       let store : storeSound s ≡ true = sym (step-sound s step stepped) ∙ e in
       let sound : benchSound b ≡ true = by-store b rules ∙ store in
@@ -108,4 +113,4 @@ module _ (b : Bench) (step : Step) (rules : rulesHold b ≡ true) (stepped : ste
       let running : step .running ≡ afterSecond s .running = ap (λ (r : Stepped). r .running) told in
       let left : step .left ≡ afterSecond s .left = ap (λ (r : Stepped). r .left) told in
       let handed : handedOf (step .handed) ≡ nextEntry s = ap (λ (r : Stepped). r .handed) told in
-      rw (executed, series, handed, running, left, counted-on s, sound)
+      rw (executed, handed, running, left, counted-on s, sound)

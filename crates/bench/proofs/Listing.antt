@@ -27,7 +27,7 @@ use Rattle.bench.specs.Carry.{Outcome, cameraAfter, taken}
 use Rattle.bench.specs.Steps.{decisionOf, decidedIn, benchBy, tallyBy, carriedBy}
 use Rattle.bench.specs.Run.{Listed, runRests, runList}
 use Rattle.bench.proofs.Sound.{GoodBench, taken-good}
-use Rattle.bench.proofs.ByTally.{taken-by, taken-tallied}
+use Rattle.bench.proofs.ByTally.{effect-parts, taken-by, taken-tallied}
 
 -- Bytes that are written in two goes, the others behind the first, are written as one.
 pub written-both : (xs ys room : List ℕ) → length xs + length ys ≤ length room → written (xs ++ ys) room ≡ xs ++ written ys (drop (length xs) room)
@@ -195,7 +195,7 @@ module _ {b₀ : Bench} {sender : ℕ} {list room₀ room : List ℕ} {b : Bench
         → Behind b₀ sender list room₀ (putMid (n * 8) (length room - n * 8) room part) (benchOf camera entries tally) tally (at + span) (n + 1)
     turn-accepted is camera-is entries-is tally-is =
         turn
-        (rw (camera-is, entries-is, tally-is) (ap (λ (d : Decision). benchBy b t (decisionOf d .taken)) (sym is)))
+        (effect-parts b t _ camera-is entries-is tally-is refl ∙ ap (λ (d : Decision). benchBy b t (decisionOf d .taken)) (sym is))
         (tally-is ∙ ap (λ (d : Decision). tallyBy t (decisionOf d .taken)) (sym is))
 
   -- The end: nothing is left of the list.

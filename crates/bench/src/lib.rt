@@ -1,6 +1,7 @@
 // The bench: camera and macro store as one state that goes in by value and comes back. Every call judges the state that it is handed (27).
 // A refused command hands back the bench as it came.
 ghost use mathlib.Core.Path.{_≡_};
+ghost use Rattle.camera.specs.Camera.{cameraSecond};
 ghost use Rattle.store.specs.Effects.{handedOf};
 ghost use Rattle.bench.specs.Status.{freshBench, paceOf, statusOf, rulesHold, benchSound, toldStatus, statusAt};
 ghost use Rattle.bench.specs.Carry.{verdictOf, outcomeOf, cameraAfter, carryOut, carryOutBytes};
@@ -117,6 +118,13 @@ fn executed_handed(camera: Camera, handed: Handed) -> Camera
         Handed::Nothing => camera,
         Handed::Over(kind) => camera.executed(kind),
     }
+}
+
+// The camera after a second: first each series, then what was handed over is executed.
+fn camera_second(camera: Camera, handed: Handed) -> Camera
+    ensures { λ r. ⌜ r ≡ executedAll (cameraSecond camera) (handedOf handed) ⌝ }
+{
+    executed_handed(camera.second(), handed)
 }
 
 impl Bench {
@@ -278,7 +286,7 @@ impl Bench {
         }
         let handed = step.handed;
         let camera = self.camera;
-        let camera = executed_handed(camera.second(), handed);
+        let camera = camera_second(camera, handed);
         let store = Store {
             running: step.running,
             left: step.left,

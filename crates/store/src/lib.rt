@@ -5,7 +5,6 @@ ghost use mathlib.Core.Bool.{cond};
 ghost use lib.Dec.{eqb};
 ghost use Rattle.store.specs.Slots.{marksOf};
 ghost use Rattle.store.specs.Effects.{freshSlots, freshStore};
-ghost use Rattle.store.specs.Sound.{storeSound};
 ghost use Rattle.store.specs.TallySteps.{storeOf, surveyOf};
 ghost use Rattle.store.specs.SecondSteps.{stepWith, stepOf, steppedOf};
 
@@ -133,14 +132,6 @@ impl Store {
         };
         let sound = soundness::holds(self, lengths);
         Survey { sound, tally }
-    }
-
-    // The store's part of a sound state.
-    pub fn is_sound(self) -> bool
-        ensures { λ r. ⌜ r ≡ storeSound self ⌝ }
-    {
-        let survey = self.survey();
-        survey.sound
     }
 
     // The second of the two things that a second does: the running macro's next entry is handed over, and one second less is left. A store that is

@@ -9,6 +9,7 @@ use Rattle.wire.specs.declared.kinds.Command.{Command}
 use Rattle.store.specs.declared.tally.Slot.{Slot}
 use Rattle.store.specs.TallySteps.{putInto, entriesAfter}
 use Rattle.store.proofs.Laws.{slot-within}
+use Rattle.bench.proofs.ByTally.{effect-parts}
 use Rattle.bench.proofs.Bench.applied.Statement.{statement}
 use Rattle.bench.proofs.Bench.applied.Tie as tie
 
@@ -58,7 +59,10 @@ entries c =
 returns : tie.Need-returns
 returns c =
     let joined = c .before .before in
-    rw (c .of-parts .ensures, c .before .applied .ensures, entries joined, joined .before .before .before .before .camera-after .ensures)
+    let camera = joined .before .before .before .before in
+    let args = camera .before .before .args in
+    effect-parts (args .self) (args .tally) (args .command) (camera .camera-after .ensures) (entries joined) (c .before .applied .ensures)
+    (c .of-parts .ensures)
 
 pub applied-spec : {M : Type 1} → statement M
 applied-spec =

@@ -32,21 +32,17 @@ returns-2 c =
     ∙ no-step (rules .before .before .args .self) (step .second .result) (sym (rules .before .obeys .ensures) ∙ not-false _ (rules .if1 .left))
     (step .second .ensures) (not-true _ (c .before .if2 .taken))
 
-second-requires-2 : tie.Need-second-requires-2
-second-requires-2 c κs = search needs
-
-executed-handed-requires : tie.Need-executed-handed-requires
-executed-handed-requires c κs = search needs
+camera-second-requires : tie.Need-camera-second-requires
+camera-second-requires c κs = search needs
 
 returns-3 : tie.Need-returns-3
 returns-3 c =
-    let handed = c .before .before .before in
-    let sound = handed .before .before .before in
+    let camera = c .before .before .before in
+    let sound = camera .before .before in
     let step = sound .before .before in
     let rules = step .before .before in
     second-passed (rules .before .before .args .self) (step .second .result) (sym (rules .before .obeys .ensures) ∙ not-false _ (rules .if1 .left))
-    (step .second .ensures) (handed .before .second2 .result) (handed .executed-handed .result) (not-false _ (sound .if2 .left))
-    (handed .before .second2 .ensures) (handed .executed-handed .ensures)
+    (step .second .ensures) (camera .camera-second .result) (not-false _ (sound .if2 .left)) (camera .camera-second .ensures)
 
 pub second-spec : {M : Type 1} → statement M
 second-spec =
@@ -58,6 +54,5 @@ second-spec =
     second-requires
     stayed-requires-2
     returns-2
-    second-requires-2
-    executed-handed-requires
+    camera-second-requires
     returns-3)
