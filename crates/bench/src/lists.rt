@@ -56,7 +56,7 @@ struct Part {
 }
 
 // Carries a list out and puts the records of its commands, one after another, into the front of a room. The macros' entries stay where they are: each
-// command is judged by the tally, and an appended one is put into its own slot.
+// command is judged by the tally, and an accepted append is put into its own slot.
 fn run_list(bench: Bench, tally: Tally, list: &[u8], sender: u8, room: &mut [u8]) -> Part
     requires { ⌜ (length (now list) ≤ 4096) × (length (rests (now list)) * 8 ≤ length (now room)) ⌝ }
     requires { ⌜ (benchSound bench ≡ true) × Tallied (bench .store) tally ⌝ }
