@@ -36,7 +36,7 @@ use Rattle.report.proofs.Calls as records
 use Rattle.walk.specs.Walk.{rests}
 use Rattle.walk.specs.Shown.{listOf, shownOf}
 use Rattle.store.specs.declared.roles.Role.{Role}
-use Rattle.store.specs.Roles.{isRun}
+use Rattle.store.specs.Roles.{isRun, isStop}
 use Rattle.store.specs.Slots.{isClosed}
 use Rattle.store.specs.WrittenOut.{writtenOut}
 use Rattle.store.proofs.Running.{RunOf, closed-lasts}
@@ -45,7 +45,7 @@ use Rattle.bench.specs.Status.{freshBench, statusOf, benchSound, soundCh
 use Rattle.bench.specs.Carry.{Outcome, effectOf, commandChecks, carryCode, carryOut, said, bytesChecks, taken, carryBytesCode, carryOutBytes}
 use Rattle.bench.specs.Second.{secondAt}
 use Rattle.bench.specs.Run.{runChecks, runOf, roomAfter}
-use Rattle.bench.specs.Events.{Event, bytes, second, run, afterOne, after, Reached, secondsIn, isStop, takesAny, accepts, acceptsAny}
+use Rattle.bench.specs.Events.{Event, bytes, second, run, afterOne, after, Reached, secondsIn, takesAny, accepts, acceptsAny}
 use Rattle.bench.proofs.Rows as rows
 use Rattle.bench.proofs.Back.{command-again, frame-again}
 use Rattle.bench.proofs.InTurn.{leftBy}

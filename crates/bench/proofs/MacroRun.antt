@@ -16,7 +16,7 @@ use Rattle.wire.specs.Read.{answerOf, readOf}
 use Rattle.walk.specs.Walk.{rests}
 use Rattle.store.specs.declared.roles.Role.{Role}
 use Rattle.store.specs.declared.Store.{Store}
-use Rattle.store.specs.Roles.{isRun}
+use Rattle.store.specs.Roles.{isRun, isStop}
 use Rattle.store.specs.Slots.{isClosed}
 use Rattle.store.specs.WrittenOut.{writtenOut}
 use Rattle.store.specs.Checks.{permitCode}
@@ -27,7 +27,7 @@ use Rattle.bench.specs.declared.Bench.{Bench}
 use Rattle.bench.specs.Carry.{Outcome, outcomeFor, effectOf, carryCode, carryOut, said, taken, carryBytesCode, carryOutBytes}
 use Rattle.bench.specs.Second.{secondAt}
 use Rattle.bench.specs.Run.{runOf}
-use Rattle.bench.specs.Events.{Event, command, bytes, second, run, afterOne, after, secondsIn, isStop}
+use Rattle.bench.specs.Events.{Event, command, bytes, second, run, afterOne, after, secondsIn}
 use Rattle.bench.specs.Events.{executes, takes, takesAny, accepts, acceptsAny}
 use Rattle.bench.proofs.Outcomes.{carry-code, read-then, carry-bytes-code, sound-bytes}
 use Rattle.bench.proofs.Back.{command-read}

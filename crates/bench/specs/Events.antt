@@ -44,15 +44,6 @@ secondsIn (bytes s ∷ es) = secondsIn es
 secondsIn (second ∷ es) = suc (secondsIn es)
 secondsIn (run kit pupil room ∷ es) = secondsIn es
 
-abbrev pub isStop : Role → Bool
-isStop Role.Plain = false
-isStop (Role.Open m) = false
-isStop Role.Close = false
-isStop (Role.Run m) = false
-isStop (Role.Wait n) = false
-isStop Role.Stop = true
-isStop Role.Clear = false
-
 -- Is this command one that executes such a role?
 abbrev pub executes : (Role → Bool) → Command → Bool
 executes test c = not (c .flag) && test (roleOf (c .kind))

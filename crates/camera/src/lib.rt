@@ -14,7 +14,7 @@ pub struct Series {
 }
 
 // A time that never counts down.
-pub const FOR_EVER: u16 = 65535;
+const FOR_EVER: u16 = 65535;
 
 // The time after a second.
 fn time_after(time: u16) -> u16
@@ -30,7 +30,7 @@ fn time_after(time: u16) -> u16
 }
 
 impl Series {
-    pub fn fresh() -> Series
+    fn fresh() -> Series
         ensures { λ r. ⌜ r ≡ freshSeries ⌝ }
     {
         Series {
@@ -42,7 +42,7 @@ impl Series {
     }
 
     // A series that supersedes this one; its first image comes in the next second.
-    pub fn started(self, time: u16, interval: u16) -> Series
+    fn started(self, time: u16, interval: u16) -> Series
         ensures { λ r. ⌜ r ≡ startedOf self time interval ⌝ }
     {
         Series {
@@ -54,7 +54,7 @@ impl Series {
     }
 
     // What one second does.
-    pub fn second(self) -> Series
+    fn second(self) -> Series
         ensures { λ r. ⌜ r ≡ secondOf self ⌝ }
     {
         if self.time == 0 {

@@ -13,7 +13,7 @@ use Rattle.wire.specs.declared.kinds.Command.{Command}
 use Rattle.wire.specs.Judge.{judgeCode}
 use Rattle.store.specs.declared.Store.{Store}
 use Rattle.store.specs.declared.roles.Role.{Role}
-use Rattle.store.specs.Roles.{roleOf, isRun, isClear, numberOf}
+use Rattle.store.specs.Roles.{roleOf, isRun, isClear, numberOf, isStop}
 use Rattle.store.specs.Slots.{countOf, isClosed, entriesOf, kept}
 use Rattle.store.specs.WrittenOut.{writtenOut}
 use Rattle.store.specs.Checks.{permitCode}
@@ -32,16 +32,6 @@ pub closed-lasts : (s : Store) → Good s → (m : ℕ) → isClosed s m ≡ tru
 closed-lasts s good m c =
     let h = good .sound .closed m (closed-small s (good .shaped) m c) c in
     record { least = h .lasts; most = h .ends }
-
--- The role of a STOP.
-abbrev pub isStop : Role → Bool
-isStop Role.Plain = false
-isStop (Role.Open m) = false
-isStop Role.Close = false
-isStop (Role.Run m) = false
-isStop (Role.Wait n) = false
-isStop Role.Stop = true
-isStop Role.Clear = false
 
 -- An executed RUN, STOP or CLEAR.
 abbrev pub startsRun : Command → Bool

@@ -57,6 +57,15 @@ isRun (Role.Wait n) = false
 isRun Role.Stop = false
 isRun Role.Clear = false
 
+abbrev pub isStop : Role → Bool
+isStop Role.Plain = false
+isStop (Role.Open m) = false
+isStop Role.Close = false
+isStop (Role.Run m) = false
+isStop (Role.Wait n) = false
+isStop Role.Stop = true
+isStop Role.Clear = false
+
 abbrev pub isClear : Role → Bool
 isClear Role.Plain = false
 isClear (Role.Open m) = false

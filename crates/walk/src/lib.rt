@@ -10,7 +10,7 @@ pub const KIT: u8 = 1;
 pub const PUPIL: u8 = 2;
 
 // Where command `number`, from 1, begins; the list's length where it has no such command.
-pub fn start_of(s: &[u8], number: u32) -> usize
+fn start_of(s: &[u8], number: u32) -> usize
     ensures { λ r. ⌜ r ≡ startOf (now (s .entry)) number ⌝ }
 {
     if number == 0 {
