@@ -1,5 +1,5 @@
--- Steps of the implementation; no public promise of the product needs them. What becomes of a command, from the tally of the macros alone, what a survey
--- finds, and what refused calls hand back.
+-- Steps of the implementation; no public promise of the product needs them.
+-- What becomes of a command, from the tally of the macros alone, what a survey finds, and what refused calls hand back.
 use Prim.Native.Nat.{ℕ}
 use mathlib.Core.List.{List, [], _∷_, _++_}
 use Rattle.wire.specs.declared.kinds.Command.{Command}

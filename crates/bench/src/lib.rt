@@ -213,11 +213,8 @@ impl Bench {
         let camera = camera_after(camera, command);
         let store = self.store;
         let mut entries = store.entries;
-        match tally.slot_for(command) {
-            Slot::At(i) => {
-                entries[i] = command;
-            }
-            Slot::Nowhere => {}
+        if let Slot::At(i) = tally.slot_for(command) {
+            entries[i] = command;
         }
         let store = Store::of_parts(entries, tally.applied(command));
         Bench { store, camera }

@@ -82,11 +82,8 @@ fn run_list(bench: Bench, tally: Tally, list: &[u8], sender: u8, room: &mut [u8]
             Decision::Refused(_) => continue,
             Decision::Accepted(command) => {
                 camera = camera_after(camera, command);
-                match tally.slot_for(command) {
-                    Slot::At(i) => {
-                        entries[i] = command;
-                    }
-                    Slot::Nowhere => {}
+                if let Slot::At(i) = tally.slot_for(command) {
+                    entries[i] = command;
                 }
                 tally = tally.applied(command);
             }

@@ -87,20 +87,28 @@ abbrev Fails : (Role → Bool) → List ℕ → Role → Type 0
 Fails test tags role = OneOf tags (tagOf the-type role) → false ≡ test role
 
 pub record OtherRole (role : Role) : Type 0 where
-  pub plain : Fails isPlain unplain role
   pub opens : Fails isOpen unopen role
   pub closes : Fails isClose unclose role
   pub runs : Fails isRun unrun role
   pub clears : Fails isClear unclear role
 
 pub other-role : (role : Role) → OtherRole role
-other-role Role.Plain = record { plain = λ h. absurd (miss unplain 0 tt h); opens = λ h. refl; closes = λ h. refl; runs = λ h. refl; clears = λ h. refl }
-other-role (Role.Open m) = record { plain = λ h. refl; opens = λ h. absurd (miss unopen 1 tt h); closes = λ h. refl; runs = λ h. refl; clears = λ h. refl }
-other-role Role.Close = record { plain = λ h. refl; opens = λ h. refl; closes = λ h. absurd (miss unclose 2 tt h); runs = λ h. refl; clears = λ h. refl }
-other-role (Role.Run m) = record { plain = λ h. refl; opens = λ h. refl; closes = λ h. refl; runs = λ h. absurd (miss unrun 3 tt h); clears = λ h. refl }
-other-role (Role.Wait n) = record { plain = λ h. refl; opens = λ h. refl; closes = λ h. refl; runs = λ h. refl; clears = λ h. refl }
-other-role Role.Stop = record { plain = λ h. refl; opens = λ h. refl; closes = λ h. refl; runs = λ h. refl; clears = λ h. refl }
-other-role Role.Clear = record { plain = λ h. refl; opens = λ h. refl; closes = λ h. refl; runs = λ h. refl; clears = λ h. absurd (miss unclear 6 tt h) }
+other-role Role.Plain = record { opens = λ h. refl; closes = λ h. refl; runs = λ h. refl; clears = λ h. refl }
+other-role (Role.Open m) = record { opens = λ h. absurd (miss unopen 1 tt h); closes = λ h. refl; runs = λ h. refl; clears = λ h. refl }
+other-role Role.Close = record { opens = λ h. refl; closes = λ h. absurd (miss unclose 2 tt h); runs = λ h. refl; clears = λ h. refl }
+other-role (Role.Run m) = record { opens = λ h. refl; closes = λ h. refl; runs = λ h. absurd (miss unrun 3 tt h); clears = λ h. refl }
+other-role (Role.Wait n) = record { opens = λ h. refl; closes = λ h. refl; runs = λ h. refl; clears = λ h. refl }
+other-role Role.Stop = record { opens = λ h. refl; closes = λ h. refl; runs = λ h. refl; clears = λ h. refl }
+other-role Role.Clear = record { opens = λ h. refl; closes = λ h. refl; runs = λ h. refl; clears = λ h. absurd (miss unclear 6 tt h) }
+
+pub other-plain : (role : Role) → Fails isPlain unplain role
+other-plain Role.Plain h = absurd (miss unplain 0 tt h)
+other-plain (Role.Open m) h = refl
+other-plain Role.Close h = refl
+other-plain (Role.Run m) h = refl
+other-plain (Role.Wait n) h = refl
+other-plain Role.Stop h = refl
+other-plain Role.Clear h = refl
 
 -- A command that passes the store by is an executed one, and plain.
 pub passed-by : (flag : Bool) (role : Role) → passesBy flag role ≡ true → (flag ≡ false) × (role ≡ Role.Plain)

@@ -1,4 +1,5 @@
--- `store::tally::Tally::applied` meets its contract: a plain command that is executed leaves the tally; else the flag decides between the two effects.
+-- `store::tally::Tally::applied` meets its contract: a plain command that is executed leaves the tally; else the flag decides between the two
+-- effects.
 use borrow.Author.Needs.{needs}
 use mathlib.Core.Path.{sym, _∙_}
 use Rattle.store.specs.TallySteps.{tallyAfter}

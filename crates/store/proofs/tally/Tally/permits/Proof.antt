@@ -1,5 +1,5 @@
--- `store::tally::Tally::permits` meets its contract: no row holds of a plain command that is executed; else the rows are tried in their order, each by
--- its own function, and past a row that does not hold the rest decides.
+-- `store::tally::Tally::permits` meets its contract: no row holds of a plain command that is executed; else the rows are tried in their order, each
+-- by its own function, and past a row that does not hold the rest decides.
 use Prim.Native.Nat.{ℕ}
 use mathlib.Core.Path.{_≡_, sym, _∙_}
 use lib.ListN.{drop}
