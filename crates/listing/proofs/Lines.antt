@@ -1,16 +1,32 @@
 -- The lines: a sender's name by cases, and how long a line is.
-use Prim.Native.Nat.{ℕ, _+_, _^_, _≤_, _<_}
+use Prim.Native.Nat.{ℕ, zero, suc, _+_, _*_, _/_, _≤_, _<_}
 use mathlib.Core.Path.{_≡_, refl}
-use mathlib.Core.List.{List}
+use mathlib.Core.List.{List, [], _++_}
 use mathlib.Core.Bool.{Bool, true, false, cond}
 use native.Mathlib.Omega.{arith}
 use lib.ListN.{length, length-append}
-use lib.Dec.{eqb}
-use borrow.Author.Tests.{eq-eqb, ne-eqb}
-use Rattle.words.specs.BigEndian.{hasRoom, written}
+use lib.Dec.{ltb, eqb}
+use borrow.Author.Tests.{eq-eqb, ne-eqb, ltb-true, ltb-false}
+use Rattle.words.specs.BigEndian.{byteAt, hasRoom, written}
+use Rattle.listing.specs.declared.Fields.{Fields}
 use Rattle.listing.specs.declared.Put.{Put}
 use Rattle.listing.specs.Answer.{answerOf, answerFor}
-use Rattle.listing.specs.Text.{ascii, ended, blank, lineFeed, decimal, nameOf, lineOf, refusalLine}
+use Rattle.listing.specs.Text.{
+  ascii,
+  ended,
+  blank,
+  lineFeed,
+  decimal,
+  nameOf,
+  lineOf,
+  fieldsAt,
+  lineAt,
+  linesTo,
+  linesOf,
+  headerLine,
+  reportText,
+  refusalLine,
+}
 use Rattle.listing.proofs.Decimal.{digits-few, digits-below, length-ended}
 
 -- The name of a sender: the kit's, the pupil's, and any other.
@@ -36,33 +52,62 @@ pub name-few : (sender : ℕ) → length (nameOf sender) ≤ 11
 name-few sender = name-within sender 11 (omega arith) (omega (arith, digits-few 10 sender))
 
 -- A line is as long as its fields with what stands behind each.
-pub length-line : (sender code par number : ℕ)
-    → length (lineOf sender code par number)
-    ≡ length (nameOf sender) + length (ended number blank) + length (ended code blank) + length (ended par lineFeed)
+pub length-line : (f : Fields)
+    → length (lineOf f)
+    ≡ length (nameOf (f .sender)) + length (ended (f .number) blank) + length (ended (f .code) blank) + length (ended (f .par) lineFeed)
 unfolding lineOf
-length-line sender code par number = simp length-append
+length-line f = simp length-append
 
 pub length-refusal : (code : ℕ) → length (refusalLine code) ≡ 8 + length (ended code lineFeed)
 unfolding refusalLine
 length-refusal code = length-append (ascii "refused ") (ended code lineFeed)
 
--- No line of a record is longer than 25 bytes, and no line of a refusal.
-pub line-short : (sender code par number : ℕ) → sender < 256 → code < 256 → par < 256 → number < 2 ^ 32 → length (lineOf sender code par number) ≤ 25
-line-short sender code par number hs hc hp hn =
+-- No line is longer than 25 bytes, where its fields are bytes and a number of 32 bits.
+pub line-short : (f : Fields) → f .sender < 256 → f .code < 256 → f .par < 256 → length (lineOf f) ≤ 25
+line-short f hs hc hp =
     omega (
       arith,
-      length-line sender code par number,
-      name-within sender 6 (omega arith) (omega (arith, digits-below 10 2 sender (omega arith))),
-      length-ended number blank,
-      digits-few 10 number,
-      length-ended code blank,
-      digits-below 10 2 code (omega arith),
-      length-ended par lineFeed,
-      digits-below 10 2 par (omega arith),
+      length-line f,
+      name-within (f .sender) 6 (omega arith) (omega (arith, digits-below 10 2 (f .sender) (omega arith))),
+      length-ended (f .number) blank,
+      digits-few 10 (f .number),
+      length-ended (f .code) blank,
+      digits-below 10 2 (f .code) (omega arith),
+      length-ended (f .par) lineFeed,
+      digits-below 10 2 (f .par) (omega arith),
     )
 
-pub refusal-short : (code : ℕ) → code < 256 → length (refusalLine code) ≤ 25
-refusal-short code hc = omega (arith, length-refusal code, length-ended code lineFeed, digits-below 10 2 code (omega arith))
+-- The lines of one record more.
+pub length-lines : (report : List ℕ) (n : ℕ) → length (linesTo report (suc n)) ≡ length (linesTo report n) + length (lineAt report n)
+unfolding linesTo
+length-lines report n = length-append (linesTo report n) (lineAt report n)
+
+-- Where the lines of all records have room, each has, behind those before it.
+pub lines-within : (report : List ℕ) (k n : ℕ) → k < n → length (linesTo report k) + length (lineAt report k) ≤ length (linesTo report n)
+lines-within report k zero before = absurd (omega arith)
+lines-within report k (suc n) before = go (ltb k n) refl (λ earlier. lines-within report k n earlier)
+  where
+    go : (b : Bool) → ltb k n ≡ b → (k < n → length (linesTo report k) + length (lineAt report k) ≤ length (linesTo report n))
+        → length (linesTo report k) + length (lineAt report k) ≤ length (linesTo report (suc n))
+    go true earlier rest = omega (arith, length-lines report n, rest (ltb-true k n earlier))
+    go false last rest =
+        let same : k ≡ n = omega (arith, ltb-false k n last) in
+        rw (same, length-lines report n) (omega arith)
+
+-- A report's text is a header and the lines; where there are at most 1,024 records, whose elements are bytes, it has at most 25,617 bytes.
+pub length-text : (report : List ℕ) → length (reportText report) ≡ 17 + length (linesOf report)
+unfolding reportText
+length-text report = length-append headerLine (linesOf report)
+
+lines-short : (report : List ℕ) → ((i : ℕ) → byteAt report i < 256) → (n : ℕ) → length (linesTo report n) ≤ n * 25
+unfolding linesTo
+lines-short report bytes zero = omega arith
+lines-short report bytes (suc n) =
+    let short = line-short (fieldsAt report n) (bytes (n * 8)) (bytes (n * 8 + 1)) (bytes (n * 8 + 2)) in
+    omega (arith, length-lines report n, lines-short report bytes n, short)
+
+pub text-short : (report : List ℕ) → ((i : ℕ) → byteAt report i < 256) → length report ≤ 8192 → length (reportText report) ≤ 25617
+text-short report bytes few = omega (arith, length-text report, lines-short report bytes (length report / 8))
 
 -- What a writer says that it put lies within its room.
 pub put-within : (put : Put) (bytes room after : List ℕ) → answerOf put ≡ answerFor bytes room → after ≡ written bytes room

@@ -20,43 +20,44 @@ sets-append room p (x ∷ xs) ys =
     rw place (sets-append (set room p x) (suc p) xs ys)
 
 -- One byte more of a text.
-pub sets-next : (text room : List ℕ) (i : ℕ) → i < length text → set (sets room 0 (take i text)) i (getD text i 0) ≡ sets room 0 (take (i + 1) text)
-sets-next text room i more =
-    let place : 0 + length (take i text) ≡ i = omega (arith, length-take-le i text (omega arith)) in
-    rw (add-one, take-suc text i 0 more) (rw place at (sets-append room 0 (take i text) (getD text i 0 ∷ [])))
+pub sets-next : (text room : List ℕ) (p i : ℕ) → i < length text
+    → set (sets room p (take i text)) (p + i) (getD text i 0) ≡ sets room p (take (i + 1) text)
+sets-next text room p i more =
+    let place : p + length (take i text) ≡ p + i = omega (arith, length-take-le i text (omega arith)) in
+    rw (add-one, take-suc text i 0 more) (rw place at (sets-append room p (take i text) (getD text i 0 ∷ [])))
 
 -- Stores from the front on are what a writer with room leaves.
-pub sets-written : (bytes room : List ℕ) → length bytes ≤ length room → sets room 0 bytes ≡ written bytes room
+sets-written : (bytes room : List ℕ) → length bytes ≤ length room → sets room 0 bytes ≡ written bytes room
 sets-written bytes room fits =
     let front : 0 + length bytes ≡ length bytes = omega arith in
     sets-eq bytes room 0 (omega arith) ∙ rw (front, with-room bytes room fits)
 
--- So many bytes of a text are laid down at the front of a room.
-pub record Laid (bytes room₀ room : List ℕ) (at : ℕ) : Type 0 where
-  pub place : at ≡ length bytes
-  pub stored : room ≡ sets room₀ 0 bytes
+-- These bytes are laid down in a room from a place on, and `at` is the place behind them.
+pub record Laid (room₀ : List ℕ) (from : ℕ) (bytes room : List ℕ) (at : ℕ) : Type 0 where
+  pub place : at ≡ from + length bytes
+  pub stored : room ≡ sets room₀ from bytes
 
--- The room keeps its length; more bytes have room and are laid down behind; and all of them are what a writer with room answers and leaves.
-module _ {bytes room₀ room : List ℕ} {at : ℕ} (laid : Laid bytes room₀ room at) where
+-- The room keeps its length; more bytes have room and are laid down behind.
+module _ {room₀ : List ℕ} {from : ℕ} {bytes room : List ℕ} {at : ℕ} (laid : Laid room₀ from bytes room at) where
   pub laid-length : length room ≡ length room₀
-  laid-length = ap length (laid .stored) ∙ length-sets room₀ 0 bytes
+  laid-length = ap length (laid .stored) ∙ length-sets room₀ from bytes
 
-  pub laid-fits : (more : List ℕ) → length bytes + length more ≤ length room₀ → at + length more ≤ length room
+  pub laid-fits : (more : List ℕ) → from + length bytes + length more ≤ length room₀ → at + length more ≤ length room
   laid-fits more fits = omega (arith, laid .place, laid-length)
 
-  pub laid-more : (more room' : List ℕ) (at' : ℕ) → at' ≡ at + length more → room' ≡ sets room at more → Laid (bytes ++ more) room₀ room' at'
+  pub laid-more : (more room' : List ℕ) (at' : ℕ) → at' ≡ at + length more → room' ≡ sets room at more → Laid room₀ from (bytes ++ more) room' at'
   laid-more more room' at' next put =
-      let front : 0 + length bytes ≡ length bytes = omega arith in
       record {
         place = next ∙ omega (arith, laid .place, length-append bytes more);
-        stored = put ∙ rw (laid .place, laid .stored) (rw front at (sets-append room₀ 0 bytes more));
+        stored = put ∙ rw (laid .place, laid .stored) (sets-append room₀ from bytes more);
       }
 
-  pub laid-all : length bytes ≤ length room₀ → (record { code = 0; bytes = at } ≡ answerFor bytes room₀) × (room ≡ written bytes room₀)
-  laid-all fits = (
-    simp (le-leb _ _ fits, laid .place),
-    laid .stored ∙ sets-written bytes room₀ fits,
-  )
+-- Bytes laid down from the front on are what a writer with room answers and leaves.
+pub laid-all : {bytes room₀ room : List ℕ} {at : ℕ} → Laid room₀ 0 bytes room at → length bytes ≤ length room₀
+    → (record { code = 0; bytes = at } ≡ answerFor bytes room₀) × (room ≡ written bytes room₀)
+laid-all {bytes} {room₀} {room} {at} laid fits =
+    let long : at ≡ length bytes = omega (arith, laid .place) in
+    (simp (le-leb _ _ fits, long), laid .stored ∙ sets-written bytes room₀ fits)
 
 -- What a writer without room answers and leaves.
 pub no-answer : (bytes room : List ℕ) → length room < length bytes

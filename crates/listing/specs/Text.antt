@@ -1,11 +1,13 @@
--- The lines that the list program prints, as bytes.
+-- The text that the list program prints, as bytes.
 use Prim.Native.Nat.{ℕ, zero, suc, _+_, _*_, _/_, _%_}
 use Prim.Native.Char.{code}
 use Prim.Native.String.{String, [] as none, _∷_ as _then_}
 use mathlib.Core.List.{List, [], _∷_, _++_}
 use mathlib.Core.Bool.{cond}
+use lib.ListN.{length}
 use lib.Dec.{ltb, eqb}
 use Rattle.words.specs.BigEndian.{byteAt, wordAt}
+use Rattle.listing.specs.declared.Fields.{Fields}
 
 -- A text as the bytes of its characters.
 abbrev pub ascii : String → List ℕ
@@ -36,18 +38,38 @@ abbrev pub nameOf : ℕ → List ℕ
 nameOf sender = cond (eqb sender 1) (ascii "kit ") (cond (eqb sender 2) (ascii "pupil ") (ended sender blank))
 
 -- "Fields are sender, number in that sender's list, code, parameter."
-unfoldable pub lineOf : ℕ → ℕ → ℕ → ℕ → List ℕ
-lineOf sender code par number = nameOf sender ++ ended number blank ++ ended code blank ++ ended par lineFeed
+unfoldable pub lineOf : Fields → List ℕ
+lineOf f = nameOf (f .sender) ++ ended (f .number) blank ++ ended (f .code) blank ++ ended (f .par) lineFeed
 
--- The line of a report's record, by its place from 0: a record has its sender, code and parameter at its bytes 0, 1 and 2, and its number from byte 4 on.
+-- "an 8-byte record"
+abbrev pub recordLength : ℕ
+recordLength = 8
+
+-- What the line of a report's record says, by the record's place from 0: "sender .., code, parameter .., 0, then its number .., 32 bits".
+abbrev pub fieldsAt : List ℕ → ℕ → Fields
+fieldsAt report place =
+    let at = place * recordLength in
+    record { sender = byteAt report at; number = wordAt report (at + 4); code = byteAt report (at + 1); par = byteAt report (at + 2) }
+
 abbrev pub lineAt : List ℕ → ℕ → List ℕ
-lineAt report place =
-    let at = place * 8 in
-    lineOf (byteAt report at) (byteAt report (at + 1)) (byteAt report (at + 2)) (wordAt report (at + 4))
+lineAt report place = lineOf (fieldsAt report place)
+
+-- The lines of the first so many records, in their order.
+unfoldable pub linesTo : List ℕ → ℕ → List ℕ
+linesTo report zero = []
+linesTo report (suc n) = linesTo report n ++ lineAt report n
+
+-- A line for each whole record.
+abbrev pub linesOf : List ℕ → List ℕ
+linesOf report = linesTo report (length report / recordLength)
 
 -- The line above the records.
 abbrev pub headerLine : List ℕ
 headerLine = ascii "from no code par\n"
+
+-- A report as the list program prints it, whole.
+unfoldable pub reportText : List ℕ → List ℕ
+reportText report = headerLine ++ linesOf report
 
 -- "Input above 4,096 bytes prints only `refused 20`." The line names the code that refused a run.
 unfoldable pub refusalLine : ℕ → List ℕ

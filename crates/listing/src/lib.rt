@@ -1,15 +1,24 @@
-// What the list program says: the kit's own list, and the lines of its report as text.
-ghost use Prim.Native.Nat.{_+_, _%_, _≤_};
+// What the list program says: the kit's own list, and a report as text: its header and a line for each record, or one line for a run that was refused.
+ghost use Prim.Native.Nat.{_+_, _/_, _%_, _≤_, _<_};
 ghost use mathlib.Core.Path.{_≡_};
 ghost use lib.ListN.{length};
+ghost use lib.Dec.{leb};
 ghost use lib.Seq.{sets};
 ghost use Rattle.words.specs.BigEndian.{written};
 ghost use Rattle.listing.specs.Kit.{kitBytes};
-ghost use Rattle.listing.specs.Text.{decimal, ended, nameOf, headerLine, lineOf, lineAt, refusalLine};
+ghost use Rattle.listing.specs.Text.{decimal, ended, nameOf, recordLength, fieldsAt, lineOf, linesOf, reportText, refusalLine};
 ghost use Rattle.listing.specs.Answer.{answerOf, answerFor};
 
-// The bytes of the longest line.
-pub const LINE: usize = 25;
+// The bytes of the header and of the longest line.
+const HEADER: usize = 17;
+
+const LINE: usize = 25;
+
+// The most records that a run gives: 512 for each of two lists of 4,096 bytes.
+const RECORDS: usize = 1024;
+
+// The room that the text of the longest report needs; that of a refusal needs less.
+pub const TEXT: usize = HEADER + RECORDS * LINE;
 
 const BLANK: u8 = b' ';
 
@@ -19,6 +28,14 @@ const LINE_FEED: u8 = b'\n';
 pub enum Put {
     Done(usize),
     NoRoom,
+}
+
+// What a line says of a record, in the order of the columns.
+struct Fields {
+    sender: u8,
+    number: u32,
+    code: u8,
+    par: u8,
 }
 
 // The kit's own list: power on; region 0 0; algorithm 0; auto flush 1.
@@ -44,13 +61,6 @@ pub fn kit_list() -> [u8; 48]
     list
 }
 
-// The line above the records.
-pub fn header() -> [u8; 17]
-    ensures { λ r. ⌜ r ≡ headerLine ⌝ }
-{
-    *b"from no code par\n"
-}
-
 // How many digits a number has.
 fn places(value: u32) -> usize
     ensures { λ r. ⌜ r ≡ length (decimal value) ⌝ }
@@ -61,18 +71,18 @@ fn places(value: u32) -> usize
     places(value / 10) + 1
 }
 
-// Puts a text at the front of a room.
-fn put_text(room: &mut [u8], text: &[u8]) -> usize
-    requires { ⌜ length (now text) ≤ length (now room) ⌝ }
-    ensures { λ r. ⌜ r ≡ length (now (text .entry)) ⌝ }
-    ensures { λ r. ⌜ now (room .exit) ≡ sets (now (room .entry)) 0 (now (text .entry)) ⌝ }
+// Puts a text into a room, from a place on, and says which place comes next.
+fn put_text(room: &mut [u8], at: usize, text: &[u8]) -> usize
+    requires { ⌜ at + length (now text) ≤ length (now room) ⌝ }
+    ensures { λ r. ⌜ r ≡ at + length (now (text .entry)) ⌝ }
+    ensures { λ r. ⌜ now (room .exit) ≡ sets (now (room .entry)) at (now (text .entry)) ⌝ }
 {
     let mut i = 0;
     while i < text.len() {
-        room[i] = text[i];
+        room[at + i] = text[i];
         i += 1;
     }
-    i
+    at + i
 }
 
 fn digit(value: u32) -> u8
@@ -81,7 +91,7 @@ fn digit(value: u32) -> u8
     48 + (value % 10) as u8
 }
 
-// Puts a number and a last byte behind it, from a place on, and says which place comes next.
+// Puts a number and a last byte behind it, likewise.
 fn put_field(room: &mut [u8], at: usize, value: u32, last: u8) -> usize
     requires { ⌜ at + length (ended value last) ≤ length (now room) ⌝ }
     ensures { λ r. ⌜ r ≡ at + length (ended value last) ⌝ }
@@ -110,53 +120,95 @@ fn name_length(sender: u8) -> usize
     places(sender as u32) + 1
 }
 
-// Puts a sender's name and a blank at the front of a room.
-fn put_name(room: &mut [u8], sender: u8) -> usize
-    requires { ⌜ length (nameOf sender) ≤ length (now room) ⌝ }
-    ensures { λ r. ⌜ r ≡ length (nameOf sender) ⌝ }
-    ensures { λ r. ⌜ now (room .exit) ≡ sets (now (room .entry)) 0 (nameOf sender) ⌝ }
+// Puts a sender's name and a blank behind it, likewise.
+fn put_name(room: &mut [u8], at: usize, sender: u8) -> usize
+    requires { ⌜ at + length (nameOf sender) ≤ length (now room) ⌝ }
+    ensures { λ r. ⌜ r ≡ at + length (nameOf sender) ⌝ }
+    ensures { λ r. ⌜ now (room .exit) ≡ sets (now (room .entry)) at (nameOf sender) ⌝ }
 {
     if sender == walk::KIT {
-        return put_text(room, b"kit ");
+        return put_text(room, at, b"kit ");
     }
     if sender == walk::PUPIL {
-        return put_text(room, b"pupil ");
+        return put_text(room, at, b"pupil ");
     }
-    put_field(room, 0, sender as u32, BLANK)
+    put_field(room, at, sender as u32, BLANK)
 }
 
-// How many bytes the line of a record has.
-fn line_length(sender: u8, code: u8, par: u8, number: u32) -> usize
-    ensures { λ r. ⌜ r ≡ length (lineOf sender code par number) ⌝ }
+// What the line of a record says, by the record's place from 0.
+fn fields_at(records: &[u8], place: usize) -> Fields
+    requires { ⌜ place < length (now records) / recordLength ⌝ }
+    ensures { λ r. ⌜ r ≡ fieldsAt (now (records .entry)) place ⌝ }
 {
-    name_length(sender) + places(number) + places(code as u32) + places(par as u32) + 3
+    let at = place * report::RECORD;
+    Fields {
+        sender: words::byte_at(records, at),
+        number: words::word_at(records, at + 4),
+        code: words::byte_at(records, at + 1),
+        par: words::byte_at(records, at + 2),
+    }
 }
 
-// Puts the line of a record at the front of a room.
-pub fn put_line(room: &mut [u8], sender: u8, code: u8, par: u8, number: u32) -> Put
-    ensures { λ r. ⌜ answerOf r ≡ answerFor (lineOf sender code par number) (now (room .entry)) ⌝ }
-    ensures { λ r. ⌜ now (room .exit) ≡ written (lineOf sender code par number) (now (room .entry)) ⌝ }
+// How many bytes a line has.
+fn line_length(fields: Fields) -> usize
+    ensures { λ r. ⌜ r ≡ length (lineOf fields) ⌝ }
 {
-    if room.len() < line_length(sender, code, par, number) {
+    name_length(fields.sender) + places(fields.number) + places(fields.code as u32) + places(fields.par as u32) + 3
+}
+
+// Puts a line into a room, from a place on, and says which place comes next.
+fn put_line(room: &mut [u8], at: usize, fields: Fields) -> usize
+    requires { ⌜ at + length (lineOf fields) ≤ length (now room) ⌝ }
+    ensures { λ r. ⌜ r ≡ at + length (lineOf fields) ⌝ }
+    ensures { λ r. ⌜ now (room .exit) ≡ sets (now (room .entry)) at (lineOf fields) ⌝ }
+{
+    let at = put_name(room, at, fields.sender);
+    let at = put_field(room, at, fields.number, BLANK);
+    let at = put_field(room, at, fields.code as u32, BLANK);
+    put_field(room, at, fields.par as u32, LINE_FEED)
+}
+
+// Has a room of so many bytes room for the text of a report? What is left of it is counted down line by line, since no number need hold the sum.
+fn fits(records: &[u8], room: usize) -> bool
+    ensures { λ r. ⌜ r ≡ leb (length (reportText (now (records .entry)))) room ⌝ }
+{
+    if room < HEADER {
+        return false;
+    }
+    let mut left = room - HEADER;
+    for place in 0..records.len() / report::RECORD {
+        let line = line_length(fields_at(records, place));
+        if left < line {
+            return false;
+        }
+        left -= line;
+    }
+    true
+}
+
+// Puts a line for each whole record into a room, from a place on, and says which place comes next.
+fn put_lines(room: &mut [u8], from: usize, records: &[u8]) -> usize
+    requires { ⌜ from + length (linesOf (now records)) ≤ length (now room) ⌝ }
+    ensures { λ r. ⌜ r ≡ from + length (linesOf (now (records .entry))) ⌝ }
+    ensures { λ r. ⌜ now (room .exit) ≡ sets (now (room .entry)) from (linesOf (now (records .entry))) ⌝ }
+{
+    let mut at = from;
+    for place in 0..records.len() / report::RECORD {
+        at = put_line(room, at, fields_at(records, place));
+    }
+    at
+}
+
+// Puts the text of a report at the front of a room: the header, and a line for each whole record.
+pub fn put_report(room: &mut [u8], records: &[u8]) -> Put
+    ensures { λ r. ⌜ answerOf r ≡ answerFor (reportText (now (records .entry))) (now (room .entry)) ⌝ }
+    ensures { λ r. ⌜ now (room .exit) ≡ written (reportText (now (records .entry))) (now (room .entry)) ⌝ }
+{
+    if !fits(records, room.len()) {
         return Put::NoRoom;
     }
-    let at = put_name(room, sender);
-    let at = put_field(room, at, number, BLANK);
-    let at = put_field(room, at, code as u32, BLANK);
-    Put::Done(put_field(room, at, par as u32, LINE_FEED))
-}
-
-// Puts the line of one record of a report, by the record's place from 0, at the front of a room. What lies past the report's end reads as 0.
-pub fn put_line_at(room: &mut [u8], records: &[u8], place: u32) -> Put
-    ensures { λ r. ⌜ answerOf r ≡ answerFor (lineAt (now (records .entry)) place) (now (room .entry)) ⌝ }
-    ensures { λ r. ⌜ now (room .exit) ≡ written (lineAt (now (records .entry)) place) (now (room .entry)) ⌝ }
-{
-    let at = (place as usize) * report::RECORD;
-    let sender = words::byte_at(records, at);
-    let code = words::byte_at(records, at + 1);
-    let par = words::byte_at(records, at + 2);
-    let number = words::word_at(records, at + 4);
-    put_line(room, sender, code, par, number)
+    let at = put_text(room, 0, b"from no code par\n");
+    Put::Done(put_lines(room, at, records))
 }
 
 // Puts the line that stands for a whole report where the run was refused.
@@ -167,6 +219,6 @@ pub fn put_refusal(room: &mut [u8], code: u8) -> Put
     if room.len() < places(code as u32) + 9 {
         return Put::NoRoom;
     }
-    let at = put_text(room, b"refused ");
+    let at = put_text(room, 0, b"refused ");
     Put::Done(put_field(room, at, code as u32, LINE_FEED))
 }

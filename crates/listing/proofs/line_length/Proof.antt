@@ -1,11 +1,18 @@
 -- `line_length` meets its contract: a line is as long as its four fields with what stands behind each.
+use Prim.Native.Nat.{ℕ, _+_, _≤_}
 use native.Mathlib.Omega.{arith}
+use lib.ListN.{length}
 use borrow.Author.Needs.{needs}
-use Rattle.listing.specs.Text.{blank, lineFeed}
+use Rattle.listing.specs.declared.Fields.{Fields}
+use Rattle.listing.specs.Text.{blank, lineFeed, nameOf, decimal}
 use Rattle.listing.proofs.Decimal.{digits-few, length-ended}
 use Rattle.listing.proofs.Lines.{name-few, length-line}
 use Rattle.listing.proofs.line_length.Statement.{statement}
 use Rattle.listing.proofs.line_length.Tie as tie
+
+-- The sum is small, so that each sum on the way is.
+small : (f : Fields) → length (nameOf (f .sender)) + length (decimal (f .number)) + length (decimal (f .code)) + length (decimal (f .par)) ≤ 41
+small f = omega (arith, name-few (f .sender), digits-few 10 (f .number), digits-few 10 (f .code), digits-few 10 (f .par))
 
 name-length-requires : tie.Need-name-length-requires
 name-length-requires c κs = search needs
@@ -14,36 +21,33 @@ places-requires : tie.Need-places-requires
 places-requires c κs = search needs
 
 add-result : tie.Need-add-result
-add-result c =
-    let start = c .before .before .args in
-    omega (arith, name-few (start .sender), digits-few 10 (start .number), digits-few 10 (start .code), digits-few 10 (start .par))
+add-result c = omega (arith, small (c .before .before .args .fields))
+
+cast-places : tie.Need-cast-places
+cast-places c = search needs
 
 places-requires-2 : tie.Need-places-requires-2
 places-requires-2 c κs = search needs
 
 add-result-2 : tie.Need-add-result-2
-add-result-2 c =
-    let start = c .before .before .before .args in
-    omega (arith, name-few (start .sender), digits-few 10 (start .number), digits-few 10 (start .code), digits-few 10 (start .par))
+add-result-2 c = omega (arith, small (c .before .before .before .before .args .fields))
+
+cast-places-2 : tie.Need-cast-places-2
+cast-places-2 c = search needs
 
 places-requires-3 : tie.Need-places-requires-3
 places-requires-3 c κs = search needs
 
 add-result-3 : tie.Need-add-result-3
-add-result-3 c =
-    let start = c .before .before .before .before .args in
-    omega (arith, name-few (start .sender), digits-few 10 (start .number), digits-few 10 (start .code), digits-few 10 (start .par))
+add-result-3 c = omega (arith, small (c .before .before .before .before .before .before .args .fields))
 
 add-result-4 : tie.Need-add-result-4
-add-result-4 c =
-    let start = c .before .before .before .before .args in
-    omega (arith, name-few (start .sender), digits-few 10 (start .number), digits-few 10 (start .code), digits-few 10 (start .par))
+add-result-4 c = omega (arith, small (c .before .before .before .before .before .before .args .fields))
 
 returns : tie.Need-returns
 returns c =
-    let start = c .before .before .before .before .args in
-    rw (length-line (start .sender) (start .code) (start .par) (start .number))
-    (omega (arith, length-ended (start .number) blank, length-ended (start .code) blank, length-ended (start .par) lineFeed))
+    let f = c .before .before .before .before .before .before .args .fields in
+    rw (length-line f) (omega (arith, length-ended (f .number) blank, length-ended (f .code) blank, length-ended (f .par) lineFeed))
 
 pub line-length-spec : {M : Type 1} → statement M
 line-length-spec =
@@ -52,8 +56,10 @@ line-length-spec =
     name-length-requires
     places-requires
     add-result
+    cast-places
     places-requires-2
     add-result-2
+    cast-places-2
     places-requires-3
     add-result-3
     add-result-4

@@ -1,120 +1,119 @@
--- `put_line` meets its contract: where there is room for the line, each call lays its field down behind those before it (`Laid`), and all of them are the
--- line; where there is none, nothing was touched.
+-- `put_line` meets its contract: each call lays its column down behind those before it (`Laid`), and all of them are the line.
 use Prim.Native.Nat.{ℕ, _+_, _≤_}
 use mathlib.Core.Path.{_≡_}
 use mathlib.Core.List.{List, _++_}
 use native.Mathlib.Omega.{arith}
 use lib.ListN.{length, length-append}
 use borrow.Author.Needs.{needs}
+use Rattle.listing.specs.declared.Fields.{Fields}
 use Rattle.listing.specs.Text.{nameOf, ended, blank, lineFeed, lineOf}
 use Rattle.listing.proofs.Lines.{length-line}
-use Rattle.listing.proofs.Stores.{Laid, laid-fits, laid-more, laid-all, no-answer}
+use Rattle.listing.proofs.Stores.{Laid, laid-fits, laid-more}
 use Rattle.listing.proofs.put_line.Statement.{statement}
 use Rattle.listing.proofs.put_line.Tie as tie
 
--- The line, and its first one, two and three fields.
-abbrev line : tie.Start → List ℕ
-line s = lineOf (s .args .sender) (s .args .code) (s .args .par) (s .args .number)
+-- The first one, two and three columns of a line.
+abbrev one : Fields → List ℕ
+one f = nameOf (f .sender)
 
-abbrev one : tie.Start → List ℕ
-one s = nameOf (s .args .sender)
+abbrev two : Fields → List ℕ
+two f = one f ++ ended (f .number) blank
 
-abbrev two : tie.Start → List ℕ
-two s = one s ++ ended (s .args .number) blank
+abbrev three : Fields → List ℕ
+three f = two f ++ ended (f .code) blank
 
-abbrev three : tie.Start → List ℕ
-three s = two s ++ ended (s .args .code) blank
+-- The line is as long as its columns one by one.
+record Columns (f : Fields) : Type 0 where
+  second : length (two f) ≡ length (one f) + length (ended (f .number) blank)
+  third : length (three f) ≡ length (two f) + length (ended (f .code) blank)
+  last : length (lineOf f) ≡ length (three f) + length (ended (f .par) lineFeed)
+
+columns : (f : Fields) → Columns f
+unfolding lineOf
+columns f =
+    record {
+      second = length-append (one f) (ended (f .number) blank);
+      third = length-append (two f) (ended (f .code) blank);
+      last = length-append (three f) (ended (f .par) lineFeed);
+    }
 
 -- The function's start, seen from behind each call.
 abbrev from-one : tie.After-put-name → tie.Start
-from-one c = c .before .before .before .before .before
+from-one c = c .before .before .before
 
 abbrev from-two : tie.After-put-field → tie.Start
 from-two c = from-one (c .before .before .before .before)
 
 abbrev from-three : tie.After-put-field2 → tie.Start
-from-three c = from-two (c .before .before .before .before)
+from-three c = from-two (c .before .before .before .before .before)
 
--- There is room for the line, which is as long as its four fields.
-fits : (c : tie.After-put-name) → length (line (from-one c)) ≤ length (from-one c .args .room .now)
-fits c = omega (arith, c .before .before .before .line-length .ensures, c .before .before .if1 .left)
+-- Each call lays down one column more.
+abbrev Down : tie.Start → List ℕ → List ℕ → ℕ → Type 0
+Down s bytes room at = Laid (s .args .room .now) (s .args .at) bytes room at
 
-long : (s : tie.Start)
-    → length (line s)
-    ≡ length (one s) + length (ended (s .args .number) blank) + length (ended (s .args .code) blank) + length (ended (s .args .par) lineFeed)
-long s = length-line (s .args .sender) (s .args .code) (s .args .par) (s .args .number)
-
-two-long : (s : tie.Start) → length (two s) ≡ length (one s) + length (ended (s .args .number) blank)
-two-long s = length-append (one s) (ended (s .args .number) blank)
-
-three-long : (s : tie.Start) → length (three s) ≡ length (two s) + length (ended (s .args .code) blank)
-three-long s = length-append (two s) (ended (s .args .code) blank)
-
--- Each call lays down one field more.
-one-laid : (c : tie.After-put-name) → Laid (one (from-one c)) (from-one c .args .room .now) (c .put-name .last .0) (c .put-name .result)
+one-laid : (c : tie.After-put-name) → Down (from-one c) (one (from-one c .args .fields)) (c .put-name .last .0) (c .put-name .result)
 one-laid c = record { place = c .put-name .ensures .0; stored = c .put-name .ensures .1 }
 
-two-laid : (c : tie.After-put-field) → Laid (two (from-two c)) (from-two c .args .room .now) (c .put-field .last .0) (c .put-field .result)
+two-laid : (c : tie.After-put-field) → Down (from-two c) (two (from-two c .args .fields)) (c .put-field .last .0) (c .put-field .result)
 two-laid c =
     let put = c .put-field in
-    let more = ended (from-two c .args .number) blank in
+    let more = ended (from-two c .args .fields .number) blank in
     laid-more (one-laid (c .before .before .before .before)) more (put .last .0) (put .result) (put .ensures .0) (put .ensures .1)
 
-three-laid : (c : tie.After-put-field2) → Laid (three (from-three c)) (from-three c .args .room .now) (c .put-field2 .last .0) (c .put-field2 .result)
+three-laid : (c : tie.After-put-field2) → Down (from-three c) (three (from-three c .args .fields)) (c .put-field2 .last .0) (c .put-field2 .result)
 three-laid c =
     let put = c .put-field2 in
-    let more = ended (from-three c .args .code) blank in
-    laid-more (two-laid (c .before .before .before .before)) more (put .last .0) (put .result) (put .ensures .0) (put .ensures .1)
-
-line-length-requires : tie.Need-line-length-requires
-line-length-requires c κs = search needs
-
-returns : tie.Need-returns
-returns c = no-answer (line (c .before .before .before)) (c .before .before .before .args .room .now) (omega arith)
+    let more = ended (from-three c .args .fields .code) blank in
+    laid-more (two-laid (c .before .before .before .before .before)) more (put .last .0) (put .result) (put .ensures .0) (put .ensures .1)
 
 put-name-requires : tie.Need-put-name-requires
-put-name-requires c κs = omega (arith, long (c .before .before .before .before))
+put-name-requires c κs = omega (arith, c .before .before .pre, columns (c .before .before .args .fields))
 
 put-field-requires : tie.Need-put-field-requires
 put-field-requires c κs =
     let at = c .before .before .before in
     let s = from-one at in
-    laid-fits (one-laid at) (ended (s .args .number) blank) (omega (arith, fits at, long s))
+    laid-fits (one-laid at) (ended (s .args .fields .number) blank) (omega (arith, s .pre, columns (s .args .fields)))
+
+cast-put-field : tie.Need-cast-put-field
+cast-put-field c = search needs
 
 put-field-requires-2 : tie.Need-put-field-requires-2
 put-field-requires-2 c κs =
-    let at = c .before .before .before in
+    let at = c .before .before .before .before in
     let s = from-two at in
-    laid-fits (two-laid at) (ended (s .args .code) blank) (omega (arith, fits (at .before .before .before .before), long s, two-long s))
+    laid-fits (two-laid at) (ended (s .args .fields .code) blank) (omega (arith, s .pre, columns (s .args .fields)))
+
+cast-put-field-2 : tie.Need-cast-put-field-2
+cast-put-field-2 c = search needs
 
 put-field-requires-3 : tie.Need-put-field-requires-3
 put-field-requires-3 c κs =
-    let at = c .before .before .before in
+    let at = c .before .before .before .before in
     let s = from-three at in
-    let first = at .before .before .before .before .before .before .before .before in
-    laid-fits (three-laid at) (ended (s .args .par) lineFeed) (omega (arith, fits first, long s, two-long s, three-long s))
+    laid-fits (three-laid at) (ended (s .args .fields .par) lineFeed) (omega (arith, s .pre, columns (s .args .fields)))
 
 same-length : tie.Need-same-length
 same-length c = search needs
 
-returns-2 : tie.Need-returns-2
+returns : tie.Need-returns
 unfolding lineOf
-returns-2 c =
+returns c =
     let put = c .before .before .put-field3 in
-    let at = c .before .before .before .before .before .before in
-    let more = ended (from-three at .args .par) lineFeed in
-    let laid = laid-more (three-laid at) more (put .last .0) (put .result) (put .ensures .0) (put .ensures .1) in
-    laid-all laid (fits (at .before .before .before .before .before .before .before .before))
+    let at = c .before .before .before .before .before .before .before in
+    let more = ended (from-three at .args .fields .par) lineFeed in
+    let all = laid-more (three-laid at) more (put .last .0) (put .result) (put .ensures .0) (put .ensures .1) in
+    (all .place, all .stored)
 
 pub put-line-spec : {M : Type 1} → statement M
 put-line-spec =
     tie.close
     (tie.spec
-    line-length-requires
-    returns
     put-name-requires
     put-field-requires
+    cast-put-field
     put-field-requires-2
+    cast-put-field-2
     put-field-requires-3
     same-length
-    returns-2)
+    returns)

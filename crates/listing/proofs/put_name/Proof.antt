@@ -49,9 +49,7 @@ same-length-3 : tie.Need-same-length-3
 same-length-3 c = search needs
 
 returns-3 : tie.Need-returns-3
-returns-3 c =
-    let put = c .before .before .put-field .ensures in
-    rw (other (c .before .before .before .before)) (omega (arith, put .0), put .1)
+returns-3 c = rw (other (c .before .before .before .before)) (c .before .before .put-field .ensures)
 
 pub put-name-spec : {M : Type 1} → statement M
 put-name-spec =

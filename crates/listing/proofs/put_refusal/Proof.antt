@@ -20,7 +20,7 @@ fits c =
     let long = c .before .before .before .before .places .ensures in
     omega (arith, length-refusal code, length-ended code lineFeed, long, c .before .before .before .if1 .left)
 
-laid : (c : tie.After-put-text) → Laid (ascii "refused ") (start c .args .room .now) (c .put-text .last .0) (c .put-text .result)
+laid : (c : tie.After-put-text) → Laid (start c .args .room .now) 0 (ascii "refused ") (c .put-text .last .0) (c .put-text .result)
 laid c = record { place = c .put-text .ensures .0; stored = c .put-text .ensures .1 }
 
 places-requires : tie.Need-places-requires

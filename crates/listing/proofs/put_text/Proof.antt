@@ -1,5 +1,5 @@
--- `put_text` meets its contract: after i turns the first i bytes of the text stand at the front of the room.
-use Prim.Native.Nat.{ℕ, _-_, _≤_, _<_}
+-- `put_text` meets its contract: after i turns the first i bytes of the text stand in the room, from the place on.
+use Prim.Native.Nat.{ℕ, _+_, _-_, _≤_, _<_}
 use mathlib.Core.Path.{_≡_, refl, ap, _∙_}
 use mathlib.Core.List.{List}
 use native.Mathlib.Omega.{arith}
@@ -11,23 +11,26 @@ use Rattle.listing.proofs.put_text.Statement.{statement}
 use Rattle.listing.proofs.put_text.Tie as tie
 
 -- The first i bytes of the text are stored.
-record Front (text room₀ room : List ℕ) (i : ℕ) : Type 0 where
+record Front (text room₀ room : List ℕ) (at i : ℕ) : Type 0 where
   within : i ≤ length text
-  fits : length text ≤ length room₀
+  fits : at + length text ≤ length room₀
   same : length room ≡ length room₀
-  front : room ≡ sets room₀ 0 (take i text)
+  front : room ≡ sets room₀ at (take i text)
 
 abbrev Inv-loop : tie.InvT-loop
-Inv-loop room₀ text i₀ room i = Front text room₀ room i
+Inv-loop room₀ at text i₀ room i = Front text room₀ room at i
 
 abbrev μ-loop : tie.MeasureT-loop
-μ-loop room₀ text i₀ room i = length text - i
+μ-loop room₀ at text i₀ room i = length text - i
 
 loop-holds : tie.Need-loop-holds Inv-loop μ-loop
 loop-holds c = record { within = omega arith; fits = search needs; same = refl; front = refl }
 
 shared-slice-read-room : tie.Need-shared-slice-read-room Inv-loop μ-loop
 shared-slice-read-room c = search needs
+
+add-room : tie.Need-add-room Inv-loop μ-loop
+add-room c = search needs
 
 slice-write-room : tie.Need-slice-write-room Inv-loop μ-loop
 slice-write-room c = search needs
@@ -44,13 +47,17 @@ loop-again c =
     let at = c .before .before .loop in
     let text = start .text .now in
     let room = start .room .now in
+    let place = start .at + at .i in
     let more : at .i < length text = omega arith in
     record {
       within = omega arith;
       fits = at .inv .fits;
-      same = length-set (at .room) (at .i) (getD text (at .i) 0) ∙ at .inv .same;
-      front = ap (λ l. set l (at .i) (getD text (at .i) 0)) (at .inv .front) ∙ sets-next text room (at .i) more;
+      same = length-set (at .room) place (getD text (at .i) 0) ∙ at .inv .same;
+      front = ap (λ l. set l place (getD text (at .i) 0)) (at .inv .front) ∙ sets-next text room (start .at) (at .i) more;
     }
+
+add-result : tie.Need-add-result Inv-loop μ-loop
+add-result c = search needs
 
 same-length : tie.Need-same-length Inv-loop μ-loop
 same-length c = search needs
@@ -60,7 +67,7 @@ returns c =
     let start = c .before .before .args in
     let at = c .before .loop in
     let all : at .i ≡ length (start .text .now) = omega arith in
-    (all, at .inv .front ∙ rw (all, take-length (start .text .now)))
+    (rw all, at .inv .front ∙ rw (all, take-length (start .text .now)))
 
 pub put-text-spec : {M : Type 1} → statement M
 put-text-spec =
@@ -70,9 +77,11 @@ put-text-spec =
     μ-loop
     loop-holds
     shared-slice-read-room
+    add-room
     slice-write-room
     add-i
     loop-less
     loop-again
+    add-result
     same-length
     returns)
