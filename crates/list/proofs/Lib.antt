@@ -1,2 +1,2 @@
--- Laws of the list program: how many records it prints, when it refuses, and which lines it prints.
+-- Laws of the list program: when it refuses, and what it prints.
 pub mod Printed

@@ -1,48 +1,97 @@
--- What the list program prints, of the meanings: the report exactly where the pupil's list is not too long, and for each record of each sender the line
--- of that sender, of the record's own number and of the verdict on that command.
-use Prim.Native.Nat.{ℕ, zero, suc, _+_, _*_, _≤_, _<_}
+-- What the list program prints, of the meanings: the report exactly where the pupil's list is not too long, and in it for each record of each sender the
+-- line of that sender, of the record's own number and of the verdict on that command; 01's transcript; and the laws behind `put_printed`.
+use Prim.Native.Nat.{ℕ, _+_, _*_, _≤_, _<_}
 use mathlib.Core.Path.{_≡_, refl, sym, ap, _∙_}
-use mathlib.Core.List.{List, [], _∷_, _++_}
-use mathlib.Core.Bool.{cond}
+use mathlib.Core.List.{List, [], _∷_}
+use mathlib.Core.Bool.{Bool, true, false, cond}
 use native.Mathlib.Omega.{arith}
-use lib.ListN.{length, drop}
-use lib.Seq.{getD-take, getD-drop}
+use lib.ListN.{length, take, drop}
+use lib.Seq.{getD-take, getD-drop, take-at}
 use lib.Dec.{ltb}
+use borrow.Author.Tests.{lt-ltb}
 use Rattle.words.specs.BigEndian.{byteAt, wordAt, bytesOf}
+use Rattle.words.proofs.Laws.{with-room}
 use Rattle.wire.specs.declared.judging.Told.{Told}
 use Rattle.wire.specs.Read.{sumOf, readOf, spanOf}
 use Rattle.wire.specs.Judge.{judgeCode}
-use Rattle.bench.specs.Carry.{taken}
 use Rattle.wire.specs.Write.{commandBytes}
 use Rattle.walk.specs.Walk.{rests}
-use Rattle.walk.proofs.Rests.{rests-512}
 use Rattle.bench.specs.declared.Bench.{Bench}
 use Rattle.bench.specs.declared.lists.Ran.{Ran}
-use Rattle.bench.specs.Run.{ranOf, begunCode, runOf, runRests, kitPart, reportOf, roomAfter}
+use Rattle.bench.specs.Carry.{taken}
+use Rattle.bench.specs.Run.{ranOf, begunCode, runCode, runOf, runRests, kitPart, reportOf, roomAfter}
 use Rattle.bench.specs.Status.{freshBench}
 use Rattle.bench.proofs.Sound.{fresh-sound}
 use Rattle.bench.proofs.Report.{recordAt, recordOf, verdictAt}
 use Rattle.bench.proofs.Report as report
 use Rattle.listing.specs.Kit.{kitBytes}
-use Rattle.listing.specs.Text.{ascii, decimalIn, headerLine, lineOf, lineAt}
-
--- A run that was carried out has at most 1,024 records.
-pub few-records : (b : Bench) (kit pupil room : List ℕ) (r : Ran) → ranOf r ≡ runOf b kit pupil room → begunCode (r .begun) ≡ 0 → r .kit + r .pupil ≤ 1024
-few-records b kit pupil room r told done =
-    let accepted : runOf b kit pupil room .code ≡ 0 = sym (ap (λ t. t .code) told) ∙ done in
-    let passed = report.passed b kit pupil room accepted in
-    omega (
-      arith,
-      ap (λ t. t .kit) told ∙ report.kit-count b kit pupil room accepted,
-      ap (λ t. t .pupil) told ∙ report.pupil-count b kit pupil room accepted,
-      rests-512 kit (passed .kit-short),
-      rests-512 pupil (passed .pupil-short),
-    )
+use Rattle.listing.specs.Text.{ascii, decimalIn, recordLength, lineOf, lineAt, linesTo, reportText, refusalLine}
+use Rattle.list.specs.Printed.{printed}
 
 -- On a fresh bench, with the kit's list and a room of 8,192 bytes, a run is refused exactly where the pupil's list is longer than 4,096 bytes, with 20.
 pub refused-20 : (pupil room : List ℕ) → length room ≡ 8192 → runOf freshBench kitBytes pupil room .code ≡ cond (ltb 4096 (length pupil)) 20 0
 unfolding runOf kitBytes commandBytes bytesOf sumOf
 refused-20 pupil room long = rw (long, fresh-sound .sound)
+
+-- So what is printed is a refusal's line or the report's text, by the code of that run.
+module _ (b : Bench) (kit pupil room : List ℕ) (fresh : b ≡ freshBench) (own : kit ≡ kitBytes) (long : length room ≡ 8192) where
+  code : runOf b kit pupil room .code ≡ cond (ltb 4096 (length pupil)) 20 0
+  code =
+      ap (λ c. runOf c kit pupil room .code) fresh
+      ∙ ap (λ k. runOf freshBench k pupil room .code) own
+      ∙ refused-20 pupil room long
+
+  text : reportText (reportOf b kit pupil) ≡ reportText (reportOf freshBench kitBytes pupil)
+  text = ap (λ c. reportText (reportOf c kit pupil)) fresh ∙ ap (λ k. reportText (reportOf freshBench k pupil)) own
+
+  pub prints-refusal : (runOf b kit pupil room .code ≡ 0 → ⊥) → refusalLine (runOf b kit pupil room .code) ≡ printed pupil
+  unfolding printed
+  prints-refusal refused = go (ltb 4096 (length pupil)) code
+    where
+      go : (above : Bool) → runOf b kit pupil room .code ≡ cond above 20 0
+          → refusalLine (runOf b kit pupil room .code) ≡ cond above (refusalLine 20) (reportText (reportOf freshBench kitBytes pupil))
+      go true is = ap refusalLine is
+      go false is = absurd (refused is)
+
+  pub prints-report : runOf b kit pupil room .code ≡ 0 → reportText (reportOf b kit pupil) ≡ printed pupil
+  unfolding printed
+  prints-report accepted = go (ltb 4096 (length pupil)) code
+    where
+      go : (above : Bool) → runOf b kit pupil room .code ≡ cond above 20 0
+          → reportText (reportOf b kit pupil) ≡ cond above (refusalLine 20) (reportText (reportOf freshBench kitBytes pupil))
+      go true is = absurd (omega (arith, is, accepted))
+      go false is = text
+
+-- The records of a run that was carried out are as many bytes at the front of its room as its two counts say.
+module _ (b : Bench) (kit pupil room : List ℕ) (r : Ran) (told : ranOf r ≡ runOf b kit pupil room) (done : begunCode (r .begun) ≡ 0) where
+  accepted : runOf b kit pupil room .code ≡ 0
+  accepted = sym (ap (λ t. t .code) told) ∙ done
+
+  pub records-long : length (reportOf b kit pupil) ≡ (r .kit + r .pupil) * 8
+  records-long =
+      omega (
+        arith,
+        report.report-long b kit pupil,
+        ap (λ t. t .kit) told ∙ report.kit-count b kit pupil room accepted,
+        ap (λ t. t .pupil) told ∙ report.pupil-count b kit pupil room accepted,
+      )
+
+  pub records-fit : length (reportOf b kit pupil) ≤ 8192
+  records-fit =
+      let passed = report.passed b kit pupil room accepted in
+      report.report-fits b kit pupil (passed .kit-short) (passed .pupil-short)
+
+  pub records-front : take ((r .kit + r .pupil) * 8) (roomAfter b kit pupil room) ≡ reportOf b kit pupil
+  unfolding roomAfter runOf
+  records-front =
+      let enough = report.passed b kit pupil room accepted .enough in
+      let stays = drop (length (reportOf b kit pupil)) room in
+      rw (accepted, with-room (reportOf b kit pupil) room (omega (arith, enough, records-fit)))
+      (take-at (reportOf b kit pupil) stays ((r .kit + r .pupil) * 8) records-long)
+
+-- The line of a sender, a number and a verdict.
+abbrev pub lineFor : ℕ → ℕ → Told → List ℕ
+lineFor sender number verdict = lineOf (record { sender = sender; number = number; code = verdict .code; par = verdict .par })
 
 -- The line at a place of a report where a record stands is the line of that record.
 module _ (room : List ℕ) (k sender number : ℕ) (verdict : Told) (stands : recordAt room k ≡ recordOf sender verdict number) where
@@ -63,7 +112,7 @@ module _ (room : List ℕ) (k sender number : ℕ) (verdict : Told) (stands : re
         byte-there 7 (at + 2 + 1) (omega arith) (omega arith),
       )
 
-  pub record-line : lineAt room k ≡ lineOf sender (verdict .code) (verdict .par) number
+  pub record-line : lineAt room k ≡ lineFor sender number verdict
   record-line =
       rw (
         byte-there 0 (k * 8) (omega arith) (omega arith),
@@ -76,25 +125,24 @@ module _ (room : List ℕ) (k sender number : ℕ) (verdict : Told) (stands : re
 -- the verdict on that command.
 module _ (b : Bench) (kit pupil room : List ℕ) (accepted : runOf b kit pupil room .code ≡ 0) where
   pub kit-line : (k : ℕ) → k < length (rests kit)
-      → lineAt (roomAfter b kit pupil room) k ≡ lineOf 1 (verdictAt b kit k .code) (verdictAt b kit k .par) (k + 1)
+      → lineAt (roomAfter b kit pupil room) k ≡ lineFor 1 (k + 1) (verdictAt b kit k)
   kit-line k there = record-line (roomAfter b kit pupil room) k 1 (k + 1) (verdictAt b kit k) (report.kit-record b kit pupil room accepted k there)
 
   pub pupil-line : (k : ℕ) → k < length (rests pupil)
-      → let verdict = verdictAt (kitPart b kit .bench) pupil k in
-      lineAt (roomAfter b kit pupil room) (length (rests kit) + k) ≡ lineOf 2 (verdict .code) (verdict .par) (k + 1)
+      → lineAt (roomAfter b kit pupil room) (length (rests kit) + k) ≡ lineFor 2 (k + 1) (verdictAt (kitPart b kit .bench) pupil k)
   pupil-line k there =
       record-line (roomAfter b kit pupil room) (length (rests kit) + k) 2 (k + 1) (verdictAt (kitPart b kit .bench) pupil k)
       (report.pupil-record b kit pupil room accepted k there)
 
--- 01's transcript.
-abbrev linesFrom : List ℕ → ℕ → ℕ → List ℕ
-linesFrom report place zero = []
-linesFrom report place (suc n) = lineAt report place ++ linesFrom report (place + 1) n
-
+-- 01's transcript: what is printed for its example, whole.
 abbrev example : List ℕ
 example = bytesOf (0x01170003 ∷ 0x02000100 ∷ 0x03170103 ∷ 0x01500003 ∷ 0x00050000 ∷ 0x01550003 ∷ 0x015a0002 ∷ [])
 
-pub transcript : headerLine ++ linesFrom (reportOf freshBench kitBytes example) 0 7
-    ≡ ascii "from no code par\nkit 1 0 0\nkit 2 0 0\nkit 3 0 0\nkit 4 0 0\npupil 1 0 0\npupil 2 8 2\npupil 3 1 0\n"
-unfolding kitBytes commandBytes bytesOf sumOf readOf judgeCode rests spanOf runRests taken lineOf decimalIn
+pub transcript : printed example ≡ ascii "from no code par\nkit 1 0 0\nkit 2 0 0\nkit 3 0 0\nkit 4 0 0\npupil 1 0 0\npupil 2 8 2\npupil 3 1 0\n"
+unfolding printed kitBytes commandBytes bytesOf sumOf readOf judgeCode rests spanOf runRests taken reportText linesTo lineOf decimalIn
 transcript = refl
+
+-- "Input above 4,096 bytes prints only `refused 20`."
+pub too-long : (pupil : List ℕ) → 4096 < length pupil → printed pupil ≡ ascii "refused 20\n"
+unfolding printed refusalLine decimalIn
+too-long pupil above = simp (lt-ltb _ _ above)

@@ -1,13 +1,13 @@
 -- The lines: a sender's name by cases, and how long a line is.
 use Prim.Native.Nat.{ℕ, zero, suc, _+_, _*_, _/_, _≤_, _<_}
-use mathlib.Core.Path.{_≡_, refl}
+use mathlib.Core.Path.{_≡_, refl, ap, _∙_}
 use mathlib.Core.List.{List, [], _++_}
 use mathlib.Core.Bool.{Bool, true, false, cond}
 use native.Mathlib.Omega.{arith}
 use lib.ListN.{length, length-append}
 use lib.Dec.{ltb, eqb}
-use borrow.Author.Tests.{eq-eqb, ne-eqb, ltb-true, ltb-false}
-use Rattle.words.specs.BigEndian.{byteAt, hasRoom, written}
+use borrow.Author.Tests.{eq-eqb, ne-eqb, le-leb, ltb-true, ltb-false}
+use Rattle.words.specs.BigEndian.{byteAt}
 use Rattle.listing.specs.declared.Fields.{Fields}
 use Rattle.listing.specs.declared.Put.{Put}
 use Rattle.listing.specs.Answer.{answerOf, answerFor}
@@ -19,12 +19,14 @@ use Rattle.listing.specs.Text.{
   decimal,
   nameOf,
   lineOf,
+  recordLength,
   fieldsAt,
   lineAt,
   linesTo,
   linesOf,
   headerLine,
   reportText,
+  textRoom,
   refusalLine,
 }
 use Rattle.listing.proofs.Decimal.{digits-few, digits-below, length-ended}
@@ -94,7 +96,7 @@ lines-within report k (suc n) before = go (ltb k n) refl (λ earlier. lines-with
         let same : k ≡ n = omega (arith, ltb-false k n last) in
         rw (same, length-lines report n) (omega arith)
 
--- A report's text is a header and the lines; where there are at most 1,024 records, whose elements are bytes, it has at most 25,617 bytes.
+-- A report's text is a header and the lines, and where its elements are bytes it has room in what is said to be enough.
 pub length-text : (report : List ℕ) → length (reportText report) ≡ 17 + length (linesOf report)
 unfolding reportText
 length-text report = length-append headerLine (linesOf report)
@@ -103,17 +105,13 @@ lines-short : (report : List ℕ) → ((i : ℕ) → byteAt report i < 256) → 
 unfolding linesTo
 lines-short report bytes zero = omega arith
 lines-short report bytes (suc n) =
-    let short = line-short (fieldsAt report n) (bytes (n * 8)) (bytes (n * 8 + 1)) (bytes (n * 8 + 2)) in
+    let at = n * recordLength in
+    let short = line-short (fieldsAt report n) (bytes at) (bytes (at + 1)) (bytes (at + 2)) in
     omega (arith, length-lines report n, lines-short report bytes n, short)
 
-pub text-short : (report : List ℕ) → ((i : ℕ) → byteAt report i < 256) → length report ≤ 8192 → length (reportText report) ≤ 25617
-text-short report bytes few = omega (arith, length-text report, lines-short report bytes (length report / 8))
+pub text-short : (report : List ℕ) → ((i : ℕ) → byteAt report i < 256) → length (reportText report) ≤ textRoom (length report)
+text-short report bytes = omega (arith, length-text report, lines-short report bytes (length report / recordLength))
 
--- What a writer says that it put lies within its room.
-pub put-within : (put : Put) (bytes room after : List ℕ) → answerOf put ≡ answerFor bytes room → after ≡ written bytes room
-    → answerOf put .bytes ≤ length after
-put-within put bytes room after told left = go (hasRoom bytes room) refl
-  where
-    go : (fits : Bool) → hasRoom bytes room ≡ fits → answerOf put .bytes ≤ length after
-    go true fits = rw (told, left, fits, length-append) (omega arith)
-    go false short = rw (told, short) (omega arith)
+-- A writer that has room says how many bytes it put.
+pub put-whole : (put : Put) (bytes room : List ℕ) → answerOf put ≡ answerFor bytes room → length bytes ≤ length room → answerOf put .bytes ≡ length bytes
+put-whole put bytes room told fits = ap (λ a. a .bytes) told ∙ simp (le-leb _ _ fits)

@@ -71,6 +71,10 @@ headerLine = ascii "from no code par\n"
 unfoldable pub reportText : List ℕ → List ℕ
 reportText report = headerLine ++ linesOf report
 
+-- The room that is enough for the text, by the bytes of the records: the header, and for each record the longest line.
+abbrev pub textRoom : ℕ → ℕ
+textRoom bytes = 17 + bytes / recordLength * 25
+
 -- "Input above 4,096 bytes prints only `refused 20`." The line names the code that refused a run.
 unfoldable pub refusalLine : ℕ → List ℕ
 refusalLine code = ascii "refused " ++ ended code lineFeed

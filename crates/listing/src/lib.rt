@@ -6,18 +6,18 @@ ghost use lib.Dec.{leb};
 ghost use lib.Seq.{sets};
 ghost use Rattle.words.specs.BigEndian.{written};
 ghost use Rattle.listing.specs.Kit.{kitBytes};
-ghost use Rattle.listing.specs.Text.{decimal, ended, nameOf, recordLength, fieldsAt, lineOf, linesOf, reportText, refusalLine};
+ghost use Rattle.listing.specs.Text.{decimal, ended, nameOf, recordLength, fieldsAt, lineOf, linesOf, reportText, textRoom, refusalLine};
 ghost use Rattle.listing.specs.Answer.{answerOf, answerFor};
 
-// The bytes of the header and of the longest line.
+// The bytes of the header, and of the longest line.
 const HEADER: usize = 17;
 
 const LINE: usize = 25;
 
-// The most records that a run gives: 512 for each of two lists of 4,096 bytes.
+// The most records of a run: 512 for each of two lists of 4,096 bytes.
 const RECORDS: usize = 1024;
 
-// The room that the text of the longest report needs; that of a refusal needs less.
+// The room that the text of the longest report needs. A refusal's line needs less.
 pub const TEXT: usize = HEADER + RECORDS * LINE;
 
 const BLANK: u8 = b' ';
@@ -30,8 +30,18 @@ pub enum Put {
     NoRoom,
 }
 
-// What a line says of a record, in the order of the columns.
-struct Fields {
+// How many bytes were put.
+pub fn bytes_of(put: Put) -> usize
+    ensures { λ r. ⌜ r ≡ answerOf put .bytes ⌝ }
+{
+    match put {
+        Put::Done(bytes) => bytes,
+        Put::NoRoom => 0,
+    }
+}
+
+// What a line says of a record, in the order of the columns. Public, since the meaning of a line names it.
+pub struct Fields {
     sender: u8,
     number: u32,
     code: u8,
@@ -153,7 +163,11 @@ fn fields_at(records: &[u8], place: usize) -> Fields
 fn line_length(fields: Fields) -> usize
     ensures { λ r. ⌜ r ≡ length (lineOf fields) ⌝ }
 {
-    name_length(fields.sender) + places(fields.number) + places(fields.code as u32) + places(fields.par as u32) + 3
+    name_length(fields.sender)
+        + places(fields.number)
+        + places(fields.code as u32)
+        + places(fields.par as u32)
+        + 3
 }
 
 // Puts a line into a room, from a place on, and says which place comes next.
@@ -199,10 +213,11 @@ fn put_lines(room: &mut [u8], from: usize, records: &[u8]) -> usize
     at
 }
 
-// Puts the text of a report at the front of a room: the header, and a line for each whole record.
+// Puts the text of a report at the front of a room: the header, and a line for each whole record. `TEXT` bytes are enough for a run's records.
 pub fn put_report(room: &mut [u8], records: &[u8]) -> Put
     ensures { λ r. ⌜ answerOf r ≡ answerFor (reportText (now (records .entry))) (now (room .entry)) ⌝ }
     ensures { λ r. ⌜ now (room .exit) ≡ written (reportText (now (records .entry))) (now (room .entry)) ⌝ }
+    ensures { λ r. ⌜ length (reportText (now (records .entry))) ≤ textRoom (length (now (records .entry))) ⌝ }
 {
     if !fits(records, room.len()) {
         return Put::NoRoom;

@@ -6,8 +6,8 @@ use native.Mathlib.Omega.{arith}
 use lib.ListN.{length}
 use borrow.Author.Needs.{needs}
 use borrow.Author.Tests.{leb-true, leb-false, not-true, not-false}
-use Rattle.listing.specs.Text.{headerLine, linesOf, reportText}
-use Rattle.listing.proofs.Lines.{length-text}
+use Rattle.listing.specs.Text.{headerLine, linesOf, reportText, textRoom}
+use Rattle.listing.proofs.Lines.{length-text, text-short}
 use Rattle.listing.proofs.Stores.{Laid, laid-fits, laid-more, laid-all, no-answer}
 use Rattle.listing.proofs.put_report.Statement.{statement}
 use Rattle.listing.proofs.put_report.Tie as tie
@@ -17,6 +17,12 @@ fits : (c : tie.Else1)
     → let start = c .before .before .before .before .args in
     length (reportText (start .records .now)) ≤ length (start .room .now)
 fits c = leb-true _ _ (sym (c .before .fits2 .ensures) ∙ not-false _ (c .if1 .left))
+
+-- The records are bytes, so that no line is longer than the longest.
+enough : (c : tie.After-shared-slice-known)
+    → let records = c .before .before .args .records .now in
+    length (reportText records) ≤ textRoom (length records)
+enough c = text-short (c .before .before .args .records .now) (λ i. omega (arith, c .shared-slice-known .given i))
 
 -- The function's start, seen from behind the header.
 abbrev start : tie.After-put-text → tie.Start
@@ -32,7 +38,8 @@ returns : tie.Need-returns
 returns c =
     let start = c .before .before .before .before .args in
     let short = leb-false _ _ (sym (c .before .fits2 .ensures) ∙ not-true _ (c .if1 .taken)) in
-    no-answer (reportText (start .records .now)) (start .room .now) short
+    let told = no-answer (reportText (start .records .now)) (start .room .now) short in
+    (told .0, (told .1, enough (c .before .before)))
 
 slice-aggregate-put-text : tie.Need-slice-aggregate-put-text
 slice-aggregate-put-text c = search needs
@@ -57,7 +64,8 @@ returns-2 c =
     let put = c .before .before .put-lines in
     let at = c .before .before .before .before .before .before in
     let all = laid-more (header at) (linesOf (start at .args .records .now)) (put .last .0) (put .result) (put .ensures .0) (put .ensures .1) in
-    laid-all all (fits (at .before .before .before))
+    let told = laid-all all (fits (at .before .before .before)) in
+    (told .0, (told .1, enough (at .before .before .before .before .before)))
 
 pub put-report-spec : {M : Type 1} → statement M
 put-report-spec =

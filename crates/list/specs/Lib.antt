@@ -1,0 +1,2 @@
+-- What the list program prints.
+pub mod Printed

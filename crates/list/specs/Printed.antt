@@ -1,0 +1,14 @@
+-- What the list program prints: 01, the end of "Examples on each side of a line".
+use Prim.Native.Nat.{ℕ}
+use mathlib.Core.List.{List}
+use mathlib.Core.Bool.{cond}
+use lib.ListN.{length}
+use lib.Dec.{ltb}
+use Rattle.bench.specs.Run.{reportOf}
+use Rattle.bench.specs.Status.{freshBench}
+use Rattle.listing.specs.Kit.{kitBytes}
+use Rattle.listing.specs.Text.{reportText, refusalLine}
+
+-- "Input above 4,096 bytes prints only `refused 20`"; of other input the report of the kit's list and then the pupil's, run on a fresh bench.
+unfoldable pub printed : List ℕ → List ℕ
+printed pupil = cond (ltb 4096 (length pupil)) (refusalLine 20) (reportText (reportOf freshBench kitBytes pupil))
