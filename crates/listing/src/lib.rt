@@ -44,8 +44,8 @@ pub fn bytes_of(put: Put) -> usize
 pub struct Fields {
     sender: u8,
     number: u32,
-    code: u8,
-    par: u8,
+    code: u32,
+    par: u32,
 }
 
 // The kit's own list: power on; region 0 0; algorithm 0; auto flush 1.
@@ -151,11 +151,15 @@ fn fields_at(records: &[u8], place: usize) -> Fields
     ensures { λ r. ⌜ r ≡ fieldsAt (now (records .entry)) place ⌝ }
 {
     let at = place * report::RECORD;
+    let sender = words::byte_at(records, at);
+    let code = words::byte_at(records, at + 1) as u32;
+    let par = words::byte_at(records, at + 2) as u32;
+    let number = words::word_at(records, at + 4);
     Fields {
-        sender: words::byte_at(records, at),
-        number: words::word_at(records, at + 4),
-        code: words::byte_at(records, at + 1),
-        par: words::byte_at(records, at + 2),
+        sender,
+        number,
+        code,
+        par,
     }
 }
 
@@ -165,8 +169,8 @@ fn line_length(fields: Fields) -> usize
 {
     name_length(fields.sender)
         + places(fields.number)
-        + places(fields.code as u32)
-        + places(fields.par as u32)
+        + places(fields.code)
+        + places(fields.par)
         + 3
 }
 
@@ -178,8 +182,8 @@ fn put_line(room: &mut [u8], at: usize, fields: Fields) -> usize
 {
     let at = put_name(room, at, fields.sender);
     let at = put_field(room, at, fields.number, BLANK);
-    let at = put_field(room, at, fields.code as u32, BLANK);
-    put_field(room, at, fields.par as u32, LINE_FEED)
+    let at = put_field(room, at, fields.code, BLANK);
+    put_field(room, at, fields.par, LINE_FEED)
 }
 
 // Has a room of so many bytes room for the text of a report? What is left of it is counted down line by line, since no number need hold the sum.
@@ -190,12 +194,12 @@ fn fits(records: &[u8], room: usize) -> bool
         return false;
     }
     let mut left = room - HEADER;
-    for place in 0..records.len() / report::RECORD {
-        let line = line_length(fields_at(records, place));
-        if left < line {
+    for line in 0..records.len() / report::RECORD {
+        let length = line_length(fields_at(records, line));
+        if left < length {
             return false;
         }
-        left -= line;
+        left -= length;
     }
     true
 }

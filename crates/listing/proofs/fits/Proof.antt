@@ -12,21 +12,21 @@ use Rattle.listing.proofs.Lines.{length-lines, lines-within, length-tex
 use Rattle.listing.proofs.fits.Statement.{statement}
 use Rattle.listing.proofs.fits.Tie as tie
 
-record Counted (records : List ℕ) (room left place : ℕ) : Type 0 where
-  within : place ≤ length records / 8
-  parts : left + 17 + length (linesTo records place) ≡ room
+record Counted (records : List ℕ) (room left line : ℕ) : Type 0 where
+  within : line ≤ length records / 8
+  parts : left + 17 + length (linesTo records line) ≡ room
 
 abbrev Inv-loop : tie.InvT-loop
-Inv-loop records room left₀ place₀ place-end left place = Counted records room left place
+Inv-loop records room left₀ line₀ line-end left line = Counted records room left line
 
 abbrev μ-loop : tie.MeasureT-loop
-μ-loop records room left₀ place₀ place-end left place = place-end - place
+μ-loop records room left₀ line₀ line-end left line = line-end - line
 
 -- What was found to be the next line's length is.
-line : (c : tie.After-line-length Inv-loop μ-loop)
+long : (c : tie.After-line-length Inv-loop μ-loop)
     → let at = c .before .before .before in
-    c .line-length .result ≡ length (lineAt (at .before .before .before .args .records .now) (at .loop .place))
-line c = c .line-length .ensures ∙ ap (λ f. length (lineOf f)) (c .before .fields-at .ensures)
+    c .line-length .result ≡ length (lineAt (at .before .before .before .args .records .now) (at .loop .line))
+long c = c .line-length .ensures ∙ ap (λ f. length (lineOf f)) (c .before .fields-at .ensures)
 
 returns : tie.Need-returns Inv-loop μ-loop
 returns c =
@@ -48,10 +48,11 @@ returns-2 c =
     let at = c .before .before .before .before in
     let start = at .before .before .before .args in
     let records = start .records .now in
-    sym (lt-leb _ (start .room) (omega (arith, at .loop .inv, length-text records, lines-within records (at .loop .place) (length records / 8) (omega arith), line (c .before))))
+    let within = lines-within records (at .loop .line) (length records / 8) (omega arith) in
+    sym (lt-leb _ (start .room) (omega (arith, at .loop .inv, length-text records, within, long (c .before))))
 
-add-place : tie.Need-add-place Inv-loop μ-loop
-add-place c = search needs
+add-line : tie.Need-add-line Inv-loop μ-loop
+add-line c = search needs
 
 loop-less : tie.Need-loop-less Inv-loop μ-loop
 loop-less c = search needs
@@ -62,14 +63,14 @@ loop-again c =
     let records = at .before .before .before .args .records .now in
     record {
       within = omega arith;
-      parts = rw add-one (omega (arith, at .loop .inv .parts, length-lines records (at .loop .place), line (c .before)));
+      parts = rw add-one (omega (arith, at .loop .inv .parts, length-lines records (at .loop .line), long (c .before)));
     }
 
 returns-3 : tie.Need-returns-3 Inv-loop μ-loop
 returns-3 c =
     let start = c .before .before .before .before .args in
     let at = c .before .loop in
-    let all : at .place ≡ length (start .records .now) / 8 = omega (arith, at .inv .within) in
+    let all : at .line ≡ length (start .records .now) / 8 = omega (arith, at .inv .within) in
     sym (le-leb _ (start .room) (omega (arith, length-text (start .records .now), rw all at (at .inv .parts))))
 
 pub fits-spec : {M : Type 1} → statement M
@@ -83,7 +84,7 @@ fits-spec =
     fields-at-requires
     line-length-requires
     returns-2
-    add-place
+    add-line
     loop-less
     loop-again
     returns-3)

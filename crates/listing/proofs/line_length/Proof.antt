@@ -23,30 +23,24 @@ places-requires c κs = search needs
 add-result : tie.Need-add-result
 add-result c = omega (arith, small (c .before .before .args .fields))
 
-cast-places : tie.Need-cast-places
-cast-places c = search needs
-
 places-requires-2 : tie.Need-places-requires-2
 places-requires-2 c κs = search needs
 
 add-result-2 : tie.Need-add-result-2
-add-result-2 c = omega (arith, small (c .before .before .before .before .args .fields))
-
-cast-places-2 : tie.Need-cast-places-2
-cast-places-2 c = search needs
+add-result-2 c = omega (arith, small (c .before .before .before .args .fields))
 
 places-requires-3 : tie.Need-places-requires-3
 places-requires-3 c κs = search needs
 
 add-result-3 : tie.Need-add-result-3
-add-result-3 c = omega (arith, small (c .before .before .before .before .before .before .args .fields))
+add-result-3 c = omega (arith, small (c .before .before .before .before .args .fields))
 
 add-result-4 : tie.Need-add-result-4
-add-result-4 c = omega (arith, small (c .before .before .before .before .before .before .args .fields))
+add-result-4 c = omega (arith, small (c .before .before .before .before .args .fields))
 
 returns : tie.Need-returns
 returns c =
-    let f = c .before .before .before .before .before .before .args .fields in
+    let f = c .before .before .before .before .args .fields in
     rw (length-line f) (omega (arith, length-ended (f .number) blank, length-ended (f .code) blank, length-ended (f .par) lineFeed))
 
 pub line-length-spec : {M : Type 1} → statement M
@@ -56,10 +50,8 @@ line-length-spec =
     name-length-requires
     places-requires
     add-result
-    cast-places
     places-requires-2
     add-result-2
-    cast-places-2
     places-requires-3
     add-result-3
     add-result-4

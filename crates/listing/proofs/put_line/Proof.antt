@@ -45,7 +45,7 @@ abbrev from-two : tie.After-put-field → tie.Start
 from-two c = from-one (c .before .before .before .before)
 
 abbrev from-three : tie.After-put-field2 → tie.Start
-from-three c = from-two (c .before .before .before .before .before)
+from-three c = from-two (c .before .before .before .before)
 
 -- Each call lays down one column more.
 abbrev Down : tie.Start → List ℕ → List ℕ → ℕ → Type 0
@@ -64,7 +64,7 @@ three-laid : (c : tie.After-put-field2) → Down (from-three c) (three (from-thr
 three-laid c =
     let put = c .put-field2 in
     let more = ended (from-three c .args .fields .code) blank in
-    laid-more (two-laid (c .before .before .before .before .before)) more (put .last .0) (put .result) (put .ensures .0) (put .ensures .1)
+    laid-more (two-laid (c .before .before .before .before)) more (put .last .0) (put .result) (put .ensures .0) (put .ensures .1)
 
 put-name-requires : tie.Need-put-name-requires
 put-name-requires c κs = omega (arith, c .before .before .pre, columns (c .before .before .args .fields))
@@ -75,21 +75,15 @@ put-field-requires c κs =
     let s = from-one at in
     laid-fits (one-laid at) (ended (s .args .fields .number) blank) (omega (arith, s .pre, columns (s .args .fields)))
 
-cast-put-field : tie.Need-cast-put-field
-cast-put-field c = search needs
-
 put-field-requires-2 : tie.Need-put-field-requires-2
 put-field-requires-2 c κs =
-    let at = c .before .before .before .before in
+    let at = c .before .before .before in
     let s = from-two at in
     laid-fits (two-laid at) (ended (s .args .fields .code) blank) (omega (arith, s .pre, columns (s .args .fields)))
 
-cast-put-field-2 : tie.Need-cast-put-field-2
-cast-put-field-2 c = search needs
-
 put-field-requires-3 : tie.Need-put-field-requires-3
 put-field-requires-3 c κs =
-    let at = c .before .before .before .before in
+    let at = c .before .before .before in
     let s = from-three at in
     laid-fits (three-laid at) (ended (s .args .fields .par) lineFeed) (omega (arith, s .pre, columns (s .args .fields)))
 
@@ -100,7 +94,7 @@ returns : tie.Need-returns
 unfolding lineOf
 returns c =
     let put = c .before .before .put-field3 in
-    let at = c .before .before .before .before .before .before .before in
+    let at = c .before .before .before .before .before .before in
     let more = ended (from-three at .args .fields .par) lineFeed in
     let all = laid-more (three-laid at) more (put .last .0) (put .result) (put .ensures .0) (put .ensures .1) in
     (all .place, all .stored)
@@ -111,9 +105,7 @@ put-line-spec =
     (tie.spec
     put-name-requires
     put-field-requires
-    cast-put-field
     put-field-requires-2
-    cast-put-field-2
     put-field-requires-3
     same-length
     returns)
