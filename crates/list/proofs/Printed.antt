@@ -1,12 +1,12 @@
--- What the list program prints, of the meanings: the report exactly where the pupil's list is not too long, and in it for each record of each sender the
--- line of that sender, of the record's own number and of the verdict on that command; 01's transcript; and the laws behind `put_printed`.
+-- What the list program prints, of the meanings: a refusal exactly where the pupil's list is too long, and else for each record of each sender the
+-- line of that sender, of the record's own number and of the verdict on that command; and 01's transcript, whole.
 use Prim.Native.Nat.{ℕ, _+_, _*_, _≤_, _<_}
 use mathlib.Core.Path.{_≡_, refl, sym, ap, _∙_}
-use mathlib.Core.List.{List, [], _∷_}
+use mathlib.Core.List.{List, [], _∷_, _++_}
 use mathlib.Core.Bool.{Bool, true, false, cond}
 use native.Mathlib.Omega.{arith}
-use lib.ListN.{length, take, drop}
-use lib.Seq.{getD-take, getD-drop, take-at}
+use lib.ListN.{length, take, drop, length-drop}
+use lib.Seq.{getD-take, getD-drop, take-at, take-append-le, drop-append-le, drop-append-add}
 use lib.Dec.{ltb}
 use borrow.Author.Tests.{lt-ltb}
 use Rattle.words.specs.BigEndian.{byteAt, wordAt, bytesOf}
@@ -19,16 +19,16 @@ use Rattle.walk.specs.Walk.{rests}
 use Rattle.bench.specs.declared.Bench.{Bench}
 use Rattle.bench.specs.declared.lists.Ran.{Ran}
 use Rattle.bench.specs.Carry.{taken}
-use Rattle.bench.specs.Run.{ranOf, begunCode, runCode, runOf, runRests, kitPart, reportOf, roomAfter}
+use Rattle.bench.specs.Run.{ranOf, begunCode, runOf, runRests, kitPart, pupilPart, reportOf, roomAfter}
 use Rattle.bench.specs.Status.{freshBench}
 use Rattle.bench.proofs.Sound.{fresh-sound}
 use Rattle.bench.proofs.Report.{recordAt, recordOf, verdictAt}
 use Rattle.bench.proofs.Report as report
 use Rattle.listing.specs.Kit.{kitBytes}
-use Rattle.listing.specs.Text.{ascii, decimalIn, recordLength, lineOf, lineAt, linesTo, reportText, refusalLine}
+use Rattle.listing.specs.Text.{ascii, decimalIn, lineOf, lineAt, linesTo, reportText, refusalLine}
 use Rattle.list.specs.Printed.{printed}
 
--- On a fresh bench, with the kit's list and a room of 8,192 bytes, a run is refused exactly where the pupil's list is longer than 4,096 bytes, with 20.
+-- On a fresh bench, with the kit's list and a room of 8,192 bytes, a run is refused, with 20, exactly where the pupil's list is above 4,096 bytes.
 pub refused-20 : (pupil room : List ℕ) → length room ≡ 8192 → runOf freshBench kitBytes pupil room .code ≡ cond (ltb 4096 (length pupil)) 20 0
 unfolding runOf kitBytes commandBytes bytesOf sumOf
 refused-20 pupil room long = rw (long, fresh-sound .sound)
@@ -121,18 +121,28 @@ module _ (room : List ℕ) (k sender number : ℕ) (verdict : Told) (stands : re
         number-there,
       )
 
--- So the lines under the header are, in the room that a run leaves, the kit's and then the pupil's, each with its own sender's numbers from 1 on and with
--- the verdict on that command.
-module _ (b : Bench) (kit pupil room : List ℕ) (accepted : runOf b kit pupil room .code ≡ 0) where
-  pub kit-line : (k : ℕ) → k < length (rests kit)
-      → lineAt (roomAfter b kit pupil room) k ≡ lineFor 1 (k + 1) (verdictAt b kit k)
-  kit-line k there = record-line (roomAfter b kit pupil room) k 1 (k + 1) (verdictAt b kit k) (report.kit-record b kit pupil room accepted k there)
+-- So the lines under the header are the kit's and then the pupil's, each with its own sender's numbers from 1 on and the verdict on that command.
+module _ (b : Bench) (kit pupil : List ℕ) where
+  abbrev first : List ℕ
+  first = kitPart b kit .records
+
+  abbrev second : List ℕ
+  second = pupilPart b kit pupil .records
+
+  pub kit-line : (k : ℕ) → k < length (rests kit) → lineAt (reportOf b kit pupil) k ≡ lineFor 1 (k + 1) (verdictAt b kit k)
+  kit-line k there =
+      let fits : 8 * k + 8 ≤ length first = omega (arith, report.list-long b 1 kit) in
+      let front = ap (take 8) (drop-append-le (8 * k) first second (omega arith)) in
+      let whole = take-append-le 8 (drop (8 * k) first) second (omega (arith, length-drop (8 * k) first)) in
+      record-line (reportOf b kit pupil) k 1 (k + 1) (verdictAt b kit k) (front ∙ whole ∙ report.list-record b 1 kit k there)
 
   pub pupil-line : (k : ℕ) → k < length (rests pupil)
-      → lineAt (roomAfter b kit pupil room) (length (rests kit) + k) ≡ lineFor 2 (k + 1) (verdictAt (kitPart b kit .bench) pupil k)
+      → lineAt (reportOf b kit pupil) (length (rests kit) + k) ≡ lineFor 2 (k + 1) (verdictAt (kitPart b kit .bench) pupil k)
   pupil-line k there =
-      record-line (roomAfter b kit pupil room) (length (rests kit) + k) 2 (k + 1) (verdictAt (kitPart b kit .bench) pupil k)
-      (report.pupil-record b kit pupil room accepted k there)
+      let place : 8 * (length (rests kit) + k) ≡ length first + 8 * k = omega (arith, report.list-long b 1 kit) in
+      let behind = ap (λ n. take 8 (drop n (first ++ second))) place ∙ ap (take 8) (drop-append-add first second (8 * k)) in
+      record-line (reportOf b kit pupil) (length (rests kit) + k) 2 (k + 1) (verdictAt (kitPart b kit .bench) pupil k)
+      (behind ∙ report.list-record (kitPart b kit .bench) 2 pupil k there)
 
 -- 01's transcript: what is printed for its example, whole.
 abbrev example : List ℕ

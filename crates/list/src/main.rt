@@ -4,6 +4,7 @@ ghost use mathlib.Core.Path.{_≡_};
 ghost use Prim.Native.Nat.{_≤_};
 ghost use mathlib.Core.List.{_++_};
 ghost use lib.ListN.{length, drop};
+ghost use Rattle.listing.specs.Text.{textRoom};
 ghost use Rattle.list.specs.Printed.{printed};
 use bench::Bench;
 use libc::STDERR_FILENO;
@@ -11,25 +12,27 @@ use libc::STDIN_FILENO;
 use libc::STDOUT_FILENO;
 
 // A list of the longest and one byte more, so that a longer list is seen to be one.
-fn input_room() -> [u8; 4097]
+const INPUT: usize = walk::LONGEST + 1;
+
+fn input_room() -> [u8; INPUT]
     ensures { λ r. ⌜ 4097 ≡ length r ⌝ }
 {
-    [0; 4097]
+    [0; INPUT]
 }
 
-fn report_room() -> [u8; 8192]
+fn report_room() -> [u8; bench::ROOM]
     ensures { λ r. ⌜ 8192 ≡ length r ⌝ }
 {
-    [0; 8192]
+    [0; bench::ROOM]
 }
 
 fn text_room() -> [u8; listing::TEXT]
-    ensures { λ r. ⌜ 25617 ≡ length r ⌝ }
+    ensures { λ r. ⌜ textRoom 8192 ≡ length r ⌝ }
 {
     [0; listing::TEXT]
 }
 
-// What was read: how many bytes, and whether the reading failed there.
+// What was read: how many bytes, and whether the read behind them failed.
 struct Input {
     bytes: usize,
     failed: bool,
@@ -46,8 +49,8 @@ fn read_once(room: &mut [u8]) -> Input
     }
 }
 
-// Reads standard input into the front of a room until the room is full or the input ends. A read that fails ends it too, but is told: a list that was
-// cut short there must not be taken for the pupil's.
+// Reads standard input into the front of a room, until the room is full, the input ends or a read fails. That it failed is told: what was read by
+// then must not be taken for the whole list.
 fn read_input(room: &mut [u8]) -> Input
     ensures { λ r. ⌜ r .bytes ≤ length (now (room .exit)) ⌝ }
 {
@@ -70,7 +73,7 @@ fn read_input(room: &mut [u8]) -> Input
 
 // Puts what is to be printed for a pupil's list at the front of a text, and says how many bytes that is.
 fn put_printed(text: &mut [u8], pupil: &[u8]) -> usize
-    requires { ⌜ 25617 ≤ length (now text) ⌝ }
+    requires { ⌜ textRoom 8192 ≤ length (now text) ⌝ }
     ensures { λ r. ⌜ r ≡ length (printed (now (pupil .entry))) ⌝ }
     ensures { λ r. ⌜ now (text .exit) ≡ printed (now (pupil .entry)) ++ drop (length (printed (now (pupil .entry)))) (now (text .entry)) ⌝ }
 {
@@ -94,10 +97,10 @@ fn main() {
         io::write_all(STDERR_FILENO, b"list: standard input cannot be read\n");
         return;
     }
-    let n = input.bytes;
+    let read = input.bytes;
     let mut text = text_room();
-    let n = put_printed(&mut text, &pupil[..n]);
-    if !io::write_all(STDOUT_FILENO, &text[..n]) {
+    let put = put_printed(&mut text, &pupil[..read]);
+    if !io::write_all(STDOUT_FILENO, &text[..put]) {
         io::write_all(STDERR_FILENO, b"list: standard output cannot be written\n");
     }
 }

@@ -1,8 +1,9 @@
--- Lines of 01's transcript, the line of a sender that 01 does not know with the largest numbers, and the line of a refusal.
+-- Lines of 01's transcript, the line of a sender that 01 does not know with the largest numbers, the line of a refusal, and the text of a report
+-- without records and of one with a record and a byte more.
 use Prim.Native.Nat.{ℕ}
 use mathlib.Core.Path.{_≡_, refl}
-use mathlib.Core.List.{List}
-use Rattle.listing.specs.Text.{ascii, decimalIn, lineOf, refusalLine}
+use mathlib.Core.List.{List, [], _∷_}
+use Rattle.listing.specs.Text.{ascii, decimalIn, lineOf, linesTo, reportText, refusalLine}
 
 abbrev pub line : ℕ → ℕ → ℕ → ℕ → List ℕ
 line sender number code par = lineOf (record { sender = sender; number = number; code = code; par = par })
@@ -22,3 +23,11 @@ largest = refl
 pub too-long : refusalLine 20 ≡ ascii "refused 20\n"
 unfolding refusalLine decimalIn
 too-long = refl
+
+pub no-record : reportText [] ≡ ascii "from no code par\n"
+unfolding reportText linesTo
+no-record = refl
+
+pub whole-records : reportText (1 ∷ 8 ∷ 2 ∷ 0 ∷ 0 ∷ 0 ∷ 0 ∷ 3 ∷ 1 ∷ []) ≡ ascii "from no code par\nkit 3 8 2\n"
+unfolding reportText linesTo lineOf decimalIn
+whole-records = refl

@@ -1,7 +1,7 @@
 -- The lines: a sender's name by cases, and how long a line is.
 use Prim.Native.Nat.{ℕ, zero, suc, _+_, _*_, _/_, _≤_, _<_}
 use mathlib.Core.Path.{_≡_, refl, ap, _∙_}
-use mathlib.Core.List.{List, [], _++_}
+use mathlib.Core.List.{List}
 use mathlib.Core.Bool.{Bool, true, false, cond}
 use native.Mathlib.Omega.{arith}
 use lib.ListN.{length, length-append}
@@ -26,6 +26,7 @@ use Rattle.listing.specs.Text.{
   linesOf,
   headerLine,
   reportText,
+  longestLine,
   textRoom,
   refusalLine,
 }
@@ -64,8 +65,8 @@ pub length-refusal : (code : ℕ) → length (refusalLine code) ≡ 8 + length (
 unfolding refusalLine
 length-refusal code = length-append (ascii "refused ") (ended code lineFeed)
 
--- No line is longer than 25 bytes, where its fields are bytes and a number of 32 bits.
-pub line-short : (f : Fields) → f .sender < 256 → f .code < 256 → f .par < 256 → length (lineOf f) ≤ 25
+-- No line is longer than the longest, where its sender, code and parameter are bytes.
+pub line-short : (f : Fields) → f .sender < 256 → f .code < 256 → f .par < 256 → length (lineOf f) ≤ longestLine
 line-short f hs hc hp =
     omega (
       arith,
@@ -96,12 +97,12 @@ lines-within report k (suc n) before = go (ltb k n) refl (λ earlier. lines-with
         let same : k ≡ n = omega (arith, ltb-false k n last) in
         rw (same, length-lines report n) (omega arith)
 
--- A report's text is a header and the lines, and where its elements are bytes it has room in what is said to be enough.
+-- A report's text is a header and the lines, and where the report's elements are bytes, what is said to be room enough is.
 pub length-text : (report : List ℕ) → length (reportText report) ≡ 17 + length (linesOf report)
 unfolding reportText
 length-text report = length-append headerLine (linesOf report)
 
-lines-short : (report : List ℕ) → ((i : ℕ) → byteAt report i < 256) → (n : ℕ) → length (linesTo report n) ≤ n * 25
+lines-short : (report : List ℕ) → ((i : ℕ) → byteAt report i < 256) → (n : ℕ) → length (linesTo report n) ≤ n * longestLine
 unfolding linesTo
 lines-short report bytes zero = omega arith
 lines-short report bytes (suc n) =
@@ -113,5 +114,6 @@ pub text-short : (report : List ℕ) → ((i : ℕ) → byteAt report i < 256) �
 text-short report bytes = omega (arith, length-text report, lines-short report bytes (length report / recordLength))
 
 -- A writer that has room says how many bytes it put.
-pub put-whole : (put : Put) (bytes room : List ℕ) → answerOf put ≡ answerFor bytes room → length bytes ≤ length room → answerOf put .bytes ≡ length bytes
+pub put-whole : (put : Put) (bytes room : List ℕ) → answerOf put ≡ answerFor bytes room → length bytes ≤ length room
+    → answerOf put .bytes ≡ length bytes
 put-whole put bytes room told fits = ap (λ a. a .bytes) told ∙ simp (le-leb _ _ fits)

@@ -4,7 +4,7 @@ use native.Mathlib.Omega.{arith}
 use Rattle.listing.specs.declared.Put.{Put}
 use Rattle.listing.specs.Answer.{answerOf}
 
--- Two answers with the same code and count are the same.
+-- Two answers with the same code and count are the same: so those of `put_report`, and those of `put_refusal`. The room is an equation's.
 pub one-put : (a b : Put) → answerOf a ≡ answerOf b → a ≡ b
 one-put (Put.Done m) (Put.Done n) e = ap (λ x. Put.Done (x .bytes)) e
 one-put (Put.Done m) Put.NoRoom e = absurd (omega (arith, ap (λ x. x .code) e))

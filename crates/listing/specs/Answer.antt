@@ -1,4 +1,4 @@
--- What a writer of a line answers.
+-- What a writer of text answers.
 use Prim.Native.Nat.{ℕ}
 use mathlib.Core.List.{List}
 use mathlib.Core.Bool.{cond}

@@ -51,6 +51,7 @@ fieldsAt report place =
     let at = place * recordLength in
     record { sender = byteAt report at; number = wordAt report (at + 4); code = byteAt report (at + 1); par = byteAt report (at + 2) }
 
+-- The line of a record.
 abbrev pub lineAt : List ℕ → ℕ → List ℕ
 lineAt report place = lineOf (fieldsAt report place)
 
@@ -71,9 +72,12 @@ headerLine = ascii "from no code par\n"
 unfoldable pub reportText : List ℕ → List ℕ
 reportText report = headerLine ++ linesOf report
 
--- The room that is enough for the text, by the bytes of the records: the header, and for each record the longest line.
+-- A line has at most 25 bytes, so that this room is enough for the text of so many bytes of records.
+abbrev pub longestLine : ℕ
+longestLine = 25
+
 abbrev pub textRoom : ℕ → ℕ
-textRoom bytes = 17 + bytes / recordLength * 25
+textRoom bytes = length headerLine + bytes / recordLength * longestLine
 
 -- "Input above 4,096 bytes prints only `refused 20`." The line names the code that refused a run.
 unfoldable pub refusalLine : ℕ → List ℕ

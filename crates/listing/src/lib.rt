@@ -1,4 +1,5 @@
-// What the list program says: the kit's own list, and a report as text: its header and a line for each record, or one line for a run that was refused.
+// What the list program says: the kit's own list, and a report as text. That is its header and a line for each record, or one line for a run that was
+// refused.
 ghost use Prim.Native.Nat.{_+_, _/_, _%_, _≤_, _<_};
 ghost use mathlib.Core.Path.{_≡_};
 ghost use lib.ListN.{length};
@@ -101,7 +102,7 @@ fn digit(value: u32) -> u8
     48 + (value % 10) as u8
 }
 
-// Puts a number and a last byte behind it, likewise.
+// Puts a number and a last byte behind it, from a place on, and says which place comes next.
 fn put_field(room: &mut [u8], at: usize, value: u32, last: u8) -> usize
     requires { ⌜ at + length (ended value last) ≤ length (now room) ⌝ }
     ensures { λ r. ⌜ r ≡ at + length (ended value last) ⌝ }
@@ -130,7 +131,7 @@ fn name_length(sender: u8) -> usize
     places(sender as u32) + 1
 }
 
-// Puts a sender's name and a blank behind it, likewise.
+// Puts a sender's name and a blank behind it, from a place on, and says which place comes next.
 fn put_name(room: &mut [u8], at: usize, sender: u8) -> usize
     requires { ⌜ at + length (nameOf sender) ≤ length (now room) ⌝ }
     ensures { λ r. ⌜ r ≡ at + length (nameOf sender) ⌝ }
@@ -186,7 +187,7 @@ fn put_line(room: &mut [u8], at: usize, fields: Fields) -> usize
     put_field(room, at, fields.par, LINE_FEED)
 }
 
-// Has a room of so many bytes room for the text of a report? What is left of it is counted down line by line, since no number need hold the sum.
+// Is there room for the text of a report in so many bytes? They are counted down line by line, since the sum might be too large a number.
 fn fits(records: &[u8], room: usize) -> bool
     ensures { λ r. ⌜ r ≡ leb (length (reportText (now (records .entry)))) room ⌝ }
 {
@@ -217,7 +218,7 @@ fn put_lines(room: &mut [u8], from: usize, records: &[u8]) -> usize
     at
 }
 
-// Puts the text of a report at the front of a room: the header, and a line for each whole record. `TEXT` bytes are enough for a run's records.
+// Puts the text of a report, the header and a line for each whole record, at the front of a room. `TEXT` bytes are enough for the records of a run.
 pub fn put_report(room: &mut [u8], records: &[u8]) -> Put
     ensures { λ r. ⌜ answerOf r ≡ answerFor (reportText (now (records .entry))) (now (room .entry)) ⌝ }
     ensures { λ r. ⌜ now (room .exit) ≡ written (reportText (now (records .entry))) (now (room .entry)) ⌝ }

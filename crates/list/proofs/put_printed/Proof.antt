@@ -1,6 +1,6 @@
 -- `put_printed` meets its contract: the run's code says which text is printed (`Printed`), the writer of that text was called, and it had room.
 use Prim.Native.Nat.{ℕ, _+_, _*_, _≤_}
-use mathlib.Core.Path.{_≡_, refl, sym, ap, _∙_}
+use mathlib.Core.Path.{_≡_, sym, ap, _∙_}
 use mathlib.Core.List.{List, _++_}
 use native.Mathlib.Omega.{arith}
 use lib.ListN.{length, take, drop}
@@ -131,8 +131,8 @@ returns c =
     let fits : length (refusalLine code) ≤ length (start at .args .text .now) =
     omega (arith, length-refusal code, length-ended code lineFeed, digits-few 10 code, start at .pre) in
     let refused = c .before .before .before .before .before .if1 .taken in
-    whole (put .result) (c .bytes-of .result) (refusalLine code) (printed (pupil at)) (start at .args .text .now) (put .last .0) (refusal at refused) fits (c .bytes-of .ensures)
-    (put .ensures .0) (put .ensures .1)
+    whole (put .result) (c .bytes-of .result) (refusalLine code) (printed (pupil at)) (start at .args .text .now) (put .last .0)
+    (refusal at refused) fits (c .bytes-of .ensures) (put .ensures .0) (put .ensures .1)
 
 cast-end : tie.Need-cast-end
 cast-end c = search needs
@@ -169,8 +169,8 @@ returns-2 c =
     let few : length (records at) ≤ 8192 = omega (arith, taken carried, within carried, at .before .records2 .given) in
     let fits : length (reportText (records at)) ≤ length (start at .args .text .now) =
     omega (arith, put .ensures .1 .1, few, start at .pre) in
-    whole (put .result) (c .bytes-of2 .result) (reportText (records at)) (printed (pupil at)) (start at .args .text .now) (put .last .0) (report carried) fits
-    (c .bytes-of2 .ensures) (put .ensures .0) (put .ensures .1 .0)
+    whole (put .result) (c .bytes-of2 .result) (reportText (records at)) (printed (pupil at)) (start at .args .text .now) (put .last .0)
+    (report carried) fits (c .bytes-of2 .ensures) (put .ensures .0) (put .ensures .1 .0)
 
 pub put-printed-spec : {M : Type 1} → statement M
 put-printed-spec =

@@ -1,5 +1,5 @@
--- `put_field` meets its contract: a number below ten is stored as its digit, and another as its tenth with the last digit behind it; then the last byte.
--- The measure is the number.
+-- `put_field` meets its contract: a number below ten is stored as its digit, and another as its tenth with the last digit behind it; then the last
+-- byte. The measure is the number.
 use Prim.Native.Nat.{ℕ, _/_, _<_}
 use mathlib.Core.List.{[], _∷_}
 use native.Mathlib.Omega.{arith}

@@ -34,7 +34,13 @@ word-at-requires : tie.Need-word-at-requires
 word-at-requires c κs = search needs
 
 returns : tie.Need-returns
-returns c = rw (← c .before .before .before .byte-at .ensures, ← c .before .before .byte-at2 .ensures, ← c .before .byte-at3 .ensures, ← c .word-at .ensures)
+returns c =
+    rw (
+      ← c .before .before .before .byte-at .ensures,
+      ← c .before .before .byte-at2 .ensures,
+      ← c .before .byte-at3 .ensures,
+      ← c .word-at .ensures,
+    )
 
 pub fields-at-spec : {M : Type 1} → statement M
 fields-at-spec =

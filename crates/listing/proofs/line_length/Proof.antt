@@ -1,5 +1,5 @@
 -- `line_length` meets its contract: a line is as long as its four fields with what stands behind each.
-use Prim.Native.Nat.{ℕ, _+_, _≤_}
+use Prim.Native.Nat.{_+_, _≤_}
 use native.Mathlib.Omega.{arith}
 use lib.ListN.{length}
 use borrow.Author.Needs.{needs}

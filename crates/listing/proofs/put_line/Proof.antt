@@ -1,5 +1,5 @@
 -- `put_line` meets its contract: each call lays its column down behind those before it (`Laid`), and all of them are the line.
-use Prim.Native.Nat.{ℕ, _+_, _≤_}
+use Prim.Native.Nat.{ℕ, _+_}
 use mathlib.Core.Path.{_≡_}
 use mathlib.Core.List.{List, _++_}
 use native.Mathlib.Omega.{arith}
@@ -7,7 +7,6 @@ use lib.ListN.{length, length-append}
 use borrow.Author.Needs.{needs}
 use Rattle.listing.specs.declared.Fields.{Fields}
 use Rattle.listing.specs.Text.{nameOf, ended, blank, lineFeed, lineOf}
-use Rattle.listing.proofs.Lines.{length-line}
 use Rattle.listing.proofs.Stores.{Laid, laid-fits, laid-more}
 use Rattle.listing.proofs.put_line.Statement.{statement}
 use Rattle.listing.proofs.put_line.Tie as tie

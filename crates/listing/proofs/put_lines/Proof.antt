@@ -1,6 +1,6 @@
 -- `put_lines` meets its contract: after so many turns the lines of so many records are laid down.
 use Prim.Native.Nat.{ℕ, _+_, _-_, _/_, _≤_}
-use mathlib.Core.Path.{_≡_, refl, ap, _∙_}
+use mathlib.Core.Path.{_≡_, refl, ap}
 use mathlib.Core.List.{List}
 use native.Mathlib.Omega.{arith}
 use native.Mathlib.Numerals.{add-one}
@@ -13,9 +13,9 @@ use Rattle.listing.proofs.put_lines.Statement.{statement}
 use Rattle.listing.proofs.put_lines.Tie as tie
 
 record Lines (room₀ : List ℕ) (from : ℕ) (records room : List ℕ) (at place : ℕ) : Type 0 where
+  laid : Laid room₀ from (linesTo records place) room at
   within : place ≤ length records / 8
   fits : from + length (linesOf records) ≤ length room₀
-  laid : Laid room₀ from (linesTo records place) room at
 
 abbrev Inv-loop : tie.InvT-loop
 Inv-loop room₀ from records at₀ place₀ place-end room at place = Lines room₀ from records room at place
@@ -27,7 +27,7 @@ loop-holds : tie.Need-loop-holds Inv-loop μ-loop
 unfolding linesTo
 loop-holds c =
     let start = c .before .before in
-    record { within = omega arith; fits = start .pre; laid = record { place = omega arith; stored = refl } }
+    record { laid = record { place = omega arith; stored = refl }; within = omega arith; fits = start .pre }
 
 fields-at-requires : tie.Need-fields-at-requires Inv-loop μ-loop
 fields-at-requires c κs = search needs
@@ -51,13 +51,12 @@ loop-again c =
     let at = c .before .before .before .before .before .before .loop in
     let records = c .before .before .before .before .before .before .before .before .before .args .records .now in
     let put = c .before .before .put-line in
+    let line = lineAt records (at .place) in
     let read = ap lineOf (c .before .before .before .fields-at .ensures) in
     record {
+      laid = rw add-one (laid-more (at .inv .laid) line (put .last .0) (put .result) (rw read at (put .ensures .0)) (rw read at (put .ensures .1)));
       within = omega arith;
       fits = at .inv .fits;
-      laid =
-          rw add-one
-          (laid-more (at .inv .laid) (lineAt records (at .place)) (put .last .0) (put .result) (rw read at (put .ensures .0)) (rw read at (put .ensures .1)));
     }
 
 same-length : tie.Need-same-length Inv-loop μ-loop

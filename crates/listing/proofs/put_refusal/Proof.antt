@@ -1,4 +1,5 @@
--- `put_refusal` meets its contract: where there is room for the line, the text is laid down and the code behind it; where there is none, nothing was touched.
+-- `put_refusal` meets its contract: where there is room for the line, the text is laid down and the code behind it; where there is none, nothing was
+-- touched.
 use Prim.Native.Nat.{_≤_}
 use native.Mathlib.Omega.{arith}
 use lib.ListN.{length}

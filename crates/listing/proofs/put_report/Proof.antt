@@ -1,5 +1,5 @@
--- `put_report` meets its contract: where there is room for the text, the header is laid down and the lines behind it; where there is none, nothing was
--- touched.
+-- `put_report` meets its contract: where there is room for the text, the header is laid down and the lines behind it; where there is none, nothing
+-- was touched.
 use Prim.Native.Nat.{_≤_}
 use mathlib.Core.Path.{sym, _∙_}
 use native.Mathlib.Omega.{arith}
