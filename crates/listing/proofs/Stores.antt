@@ -1,36 +1,14 @@
 -- Bytes stored from a place on: those of two stores one after another, and what a writer of them leaves.
-use Prim.Native.Nat.{ℕ, suc, _+_, _≤_, _<_}
+use Prim.Native.Nat.{ℕ, _+_, _≤_, _<_}
 use mathlib.Core.Path.{_≡_, sym, ap, _∙_}
-use mathlib.Core.List.{List, [], _∷_, _++_}
-use native.Mathlib.Nat.{add-zero}
+use mathlib.Core.List.{List, _++_}
 use native.Mathlib.Omega.{arith}
-use native.Mathlib.Numerals.{add-one}
-use lib.ListN.{length, getD, set, take, length-append}
-use lib.Seq.{sets, sets-eq, length-sets, take-suc, length-take-le}
+use lib.ListN.{length, length-append}
+use lib.Seq.{sets, length-sets}
 use borrow.Author.Tests.{le-leb, lt-leb}
 use Rattle.words.specs.BigEndian.{written}
-use Rattle.words.proofs.Laws.{with-room, no-room}
+use Rattle.words.proofs.Laws.{no-room, sets-append, sets-written}
 use Rattle.listing.specs.Answer.{answerFor}
-
--- Bytes and behind them more bytes are stored as one.
-pub sets-append : (room : List ℕ) (p : ℕ) (xs ys : List ℕ) → sets (sets room p xs) (p + length xs) ys ≡ sets room p (xs ++ ys)
-sets-append room p [] ys = rw add-zero
-sets-append room p (x ∷ xs) ys =
-    let place : p + suc (length xs) ≡ suc p + length xs = omega arith in
-    rw place (sets-append (set room p x) (suc p) xs ys)
-
--- One byte more of a text.
-pub sets-next : (text room : List ℕ) (p i : ℕ) → i < length text
-    → set (sets room p (take i text)) (p + i) (getD text i 0) ≡ sets room p (take (i + 1) text)
-sets-next text room p i more =
-    let place : p + length (take i text) ≡ p + i = omega (arith, length-take-le i text (omega arith)) in
-    rw (add-one, take-suc text i 0 more) (rw place at (sets-append room p (take i text) (getD text i 0 ∷ [])))
-
--- Stores from the front on are what a writer with room leaves.
-sets-written : (bytes room : List ℕ) → length bytes ≤ length room → sets room 0 bytes ≡ written bytes room
-sets-written bytes room fits =
-    let front : 0 + length bytes ≡ length bytes = omega arith in
-    sets-eq bytes room 0 (omega arith) ∙ rw (front, with-room bytes room fits)
 
 -- These bytes are laid down in a room from a place on, and `at` is the place behind them.
 pub record Laid (room₀ : List ℕ) (from : ℕ) (bytes room : List ℕ) (at : ℕ) : Type 0 where

@@ -49,18 +49,19 @@ with-room bytes room h = simp (le-leb _ _ h)
 pub no-room : (bytes room : List ℕ) → length room < length bytes → written bytes room ≡ room
 no-room bytes room h = simp (lt-leb _ _ h)
 
--- Bytes stored one after another from the front on: one byte more, and all of them are what a writer with room leaves.
+-- Bytes stored one after another from a place on: more of them behind, one more, and that all of them, from the front on, are what a writer with room
+-- leaves.
 pub sets-append : (room : List ℕ) (p : ℕ) (xs ys : List ℕ) → sets (sets room p xs) (p + length xs) ys ≡ sets room p (xs ++ ys)
 sets-append room p [] ys = rw add-zero
 sets-append room p (x ∷ xs) ys =
     let place : p + suc (length xs) ≡ suc p + length xs = omega arith in
     rw place (sets-append (set room p x) (suc p) xs ys)
 
-pub sets-next : (bytes room : List ℕ) (i : ℕ) → i < length bytes
-    → set (sets room 0 (take i bytes)) i (getD bytes i 0) ≡ sets room 0 (take (i + 1) bytes)
-sets-next bytes room i more =
-    let place : 0 + length (take i bytes) ≡ i = omega (arith, length-take-le i bytes (omega arith)) in
-    rw (add-one, take-suc bytes i 0 more) (rw place at (sets-append room 0 (take i bytes) (getD bytes i 0 ∷ [])))
+pub sets-next : (bytes room : List ℕ) (p i at : ℕ) → at ≡ p + i → i < length bytes
+    → set (sets room p (take i bytes)) at (getD bytes i 0) ≡ sets room p (take (i + 1) bytes)
+sets-next bytes room p i at is more =
+    let place : p + length (take i bytes) ≡ at = omega (arith, length-take-le i bytes (omega arith)) in
+    rw (add-one, take-suc bytes i 0 more) (rw place at (sets-append room p (take i bytes) (getD bytes i 0 ∷ [])))
 
 pub sets-written : (bytes room : List ℕ) → length bytes ≤ length room → sets room 0 bytes ≡ written bytes room
 sets-written bytes room fits =

@@ -10,7 +10,7 @@ use borrow.Fn.Kinds.{In}
 use borrow.Fn.PlainCycle.{Measures, is, falls, and}
 use Rattle.listing.specs.Text.{ended}
 use Rattle.listing.proofs.Decimal.{digitOf, ended-one, ended-more, length-ended-one, length-ended-more}
-use Rattle.listing.proofs.Stores.{sets-append}
+use Rattle.words.proofs.Laws.{sets-append}
 use Rattle.listing.proofs.put_field.Reads as put-field
 use Rattle.listing.proofs.put_field.Kinds as put-field-kinds
 use Rattle.listing.proofs.+put_field.Lts-put_field as put-field-lts

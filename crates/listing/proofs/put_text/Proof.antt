@@ -6,7 +6,7 @@ use native.Mathlib.Omega.{arith}
 use lib.ListN.{length, getD, set, take, length-set}
 use lib.Seq.{sets, take-length}
 use borrow.Author.Needs.{needs}
-use Rattle.listing.proofs.Stores.{sets-next}
+use Rattle.words.proofs.Laws.{sets-next}
 use Rattle.listing.proofs.put_text.Statement.{statement}
 use Rattle.listing.proofs.put_text.Tie as tie
 
@@ -53,7 +53,7 @@ loop-again c =
       within = omega arith;
       fits = at .inv .fits;
       same = length-set (at .room) place (getD text (at .i) 0) ∙ at .inv .same;
-      front = ap (λ l. set l place (getD text (at .i) 0)) (at .inv .front) ∙ sets-next text room (start .at) (at .i) more;
+      front = ap (λ l. set l place (getD text (at .i) 0)) (at .inv .front) ∙ sets-next text room (start .at) (at .i) place refl more;
     }
 
 add-result : tie.Need-add-result Inv-loop μ-loop

@@ -55,7 +55,7 @@ loop-again c =
       within = omega arith;
       fits = at .inv .fits;
       same = length-set (at .room) (at .i) (getD bytes (at .i) 0) ∙ at .inv .same;
-      front = ap (λ l. set l (at .i) (getD bytes (at .i) 0)) (at .inv .front) ∙ sets-next bytes (start .room .now) (at .i) more;
+      front = ap (λ l. set l (at .i) (getD bytes (at .i) 0)) (at .inv .front) ∙ sets-next bytes (start .room .now) 0 (at .i) (at .i) (omega arith) more;
     }
 
 same-length : tie.Need-same-length Inv-loop μ-loop
