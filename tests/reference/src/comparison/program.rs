@@ -7,8 +7,8 @@ use std::sync::mpsc;
 use std::thread;
 use std::time::Duration;
 
-/// Far above what a script needs, even under a slow emulator.
-const TIME_LIMIT: Duration = Duration::from_secs(100);
+/// Far above what a script needs, even under an emulator on a busy machine.
+const TIME_LIMIT: Duration = Duration::from_secs(300);
 /// The longest honest transcript is below 5 MB: 65,536 status lines.
 const OUTPUT_LIMIT: u64 = 16 << 20;
 
