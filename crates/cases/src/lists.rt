@@ -3,6 +3,7 @@
 use super::lines;
 use super::rooms;
 use super::say;
+use super::telling;
 use bench::Bench;
 use bench::Ran;
 
@@ -38,11 +39,10 @@ fn last(room: &[u8], count: u32, end: usize) {
     }
 }
 
-// What a run answered: the last record of each sender, what is behind the records, and the flushes of the bench afterwards.
+// What a run answered: the last record of each sender, what is behind the records, and the status of the bench afterwards.
 fn answer(ran: Ran, room: &[u8]) {
     let begun = ran.begun;
     let after = ran.bench;
-    let camera = after.camera;
     let middle = ran.kit as usize * report::RECORD;
     let end = middle + ran.pupil as usize * report::RECORD;
     say::field8(b"code ", bench::code_of(begun));
@@ -51,7 +51,8 @@ fn answer(ran: Ran, room: &[u8]) {
     last(room, ran.kit, middle);
     last(room, ran.pupil, end);
     rooms::rest(room, end);
-    say::field8(b", flushes ", camera.flushes);
+    say::text(b", ");
+    telling::status(after);
 }
 
 // Runs both lists with the front of a room.

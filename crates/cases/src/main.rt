@@ -13,6 +13,7 @@ mod rooms;
 mod say;
 mod setting;
 mod states;
+mod telling;
 
 use bench::Bench;
 
@@ -54,7 +55,7 @@ fn single(line: &[u8], s: &[u8]) {
 // Verbs that leave the bench of the lines as it is.
 fn looked(b: Bench, line: &[u8], s: &[u8]) {
     if lines::begins(line, b"status ") {
-        asking::status(b);
+        telling::status(b);
     } else if lines::begins(line, b"state ") {
         states::state(setting::set(b, s));
     } else if lines::begins(line, b"run ") {

@@ -47,6 +47,15 @@ pub fn field16(name: &[u8], n: u16) {
     field(name, n as u64);
 }
 
+// 1 or 0 behind a name.
+pub fn flag(name: &[u8], on: bool) {
+    if on {
+        field(name, 1);
+    } else {
+        field(name, 0);
+    }
+}
+
 // A code and its parameter.
 pub fn told(t: Told) {
     field8(b"code ", t.code);
@@ -88,8 +97,8 @@ fn argument(a: u32) {
     number(a as u64);
 }
 
-// A goal as an argument, by its bits.
-fn goal(bits: u32) {
+// A goal, by its bits.
+pub fn goal(bits: u32) {
     text(b" ");
     io::print_hex(1, bits as u64, 8);
 }
@@ -111,15 +120,6 @@ fn arguments(layout: Layout, a: u32, b: u32) {
     }
 }
 
-// Acceptance, and the flag of the command.
-fn accepted(flag: bool) {
-    if flag {
-        text(b"code 0, flag 1 ");
-    } else {
-        text(b"code 0, flag 0 ");
-    }
-}
-
 // A kind by its name, with its own arguments.
 pub fn kind(kind: Kind) {
     let parts = wire::parts_of(kind);
@@ -132,7 +132,8 @@ pub fn kind(kind: Kind) {
 
 // A command that was taken.
 pub fn taken(c: Command) {
-    accepted(c.flag);
     let taken = c.kind;
+    flag(b"code 0, flag ", c.flag);
+    text(b" ");
     kind(taken);
 }

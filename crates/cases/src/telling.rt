@@ -1,0 +1,59 @@
+// The status of a bench in one line: every field of its status frame by name. Goals are bits in hex, power, auto flush and loop 0 or 1; 255 is no
+// macro, and `closed` has bit m for macro m.
+use super::say;
+use bench::Bench;
+use bench::Status;
+use frame::Frame;
+use frame::Pace;
+
+// A series of images, its time behind this name.
+fn series(name: &[u8], pace: Pace) {
+    say::field16(name, pace.time);
+    say::field16(b" interval ", pace.interval);
+    say::field16(b" images ", pace.count);
+}
+
+// Where the camera looks, and where its mirror is to go.
+fn aim(f: Frame) {
+    say::field16(b", X ", f.x);
+    say::field16(b" Y ", f.y);
+    say::text(b", goal");
+    say::goal(f.xgoal);
+    say::goal(f.ygoal);
+}
+
+// The modes.
+fn modes(f: Frame) {
+    say::flag(b", power ", f.power);
+    say::flag(b" auto ", f.auto);
+    say::flag(b" loop ", f.tracking);
+    say::field8(b" algorithm ", f.algorithm);
+}
+
+// The macros.
+fn macros(f: Frame) {
+    say::field8(b", running ", f.running);
+    say::field8(b" open ", f.opened);
+    say::field16(b" left ", f.left);
+    say::field8(b" closed ", f.closed);
+}
+
+// All fields of a frame.
+fn fields(f: Frame) {
+    let image = f.image;
+    let track = f.track;
+    series(b"image time ", image);
+    series(b", track time ", track);
+    aim(f);
+    modes(f);
+    say::field8(b", flushes ", f.flushes);
+    macros(f);
+}
+
+// The fields of the bench's frame, or 27.
+pub fn status(b: Bench) {
+    match b.status() {
+        Status::Known(f) => fields(f),
+        Status::Unsound => say::text(b"status 27"),
+    }
+}
