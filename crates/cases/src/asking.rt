@@ -4,15 +4,20 @@ use super::say;
 use super::telling;
 use bench::Bench;
 use bench::Carried;
+use bench::Verdict;
 use store::Handed;
 
-// The bench of a command carried out, after its code and parameter and the status are said.
-pub fn verdict(carried: Carried) -> Bench {
+// The code and parameter of a verdict.
+fn code(verdict: Verdict) {
+    say::told(bench::told_of(verdict));
+}
+
+// `step` and `bytes`: the code, and the status of the bench, which goes on.
+pub fn carried(carried: Carried) -> Bench {
     let verdict = carried.verdict;
     let next = carried.bench;
-    say::told(bench::told_of(verdict));
-    say::text(b", ");
-    telling::status(next);
+    code(verdict);
+    telling::status(b", ", next);
     next
 }
 
@@ -24,16 +29,20 @@ pub fn handed(over: Handed) {
     }
 }
 
-// `second`: the code, what was handed over, and the status as the second ends.
+// What a second answered: the code, and what was handed over.
+fn answer(verdict: Verdict, over: Handed) {
+    code(verdict);
+    say::text(b", ");
+    handed(over);
+}
+
+// `second`: the code, what was handed over, and the status of the bench, which goes on.
 pub fn second(b: Bench) -> Bench {
     let passed = b.second();
     let verdict = passed.verdict;
     let over = passed.handed;
     let next = passed.bench;
-    say::told(bench::told_of(verdict));
-    say::text(b", ");
-    handed(over);
-    say::text(b", ");
-    telling::status(next);
+    answer(verdict, over);
+    telling::status(b", ", next);
     next
 }

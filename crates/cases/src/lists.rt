@@ -4,6 +4,7 @@ use super::lines;
 use super::rooms;
 use super::say;
 use super::telling;
+use bench::Begun;
 use bench::Bench;
 use bench::Ran;
 
@@ -39,20 +40,24 @@ fn last(room: &[u8], count: u32, end: usize) {
     }
 }
 
-// What a run answered: the last record of each sender, what is behind the records, and the status of the bench afterwards.
-fn answer(ran: Ran, room: &[u8]) {
+// What a run answered: its code, how many records each sender has and the last of them, and what is behind the records in the room.
+fn answer(begun: Begun, kit: u32, pupil: u32, room: &[u8]) {
+    let middle = kit as usize * report::RECORD;
+    let end = middle + pupil as usize * report::RECORD;
+    say::field8(b"code ", bench::code_of(begun));
+    say::field(b", kit ", kit as u64);
+    say::field(b", pupil ", pupil as u64);
+    last(room, kit, middle);
+    last(room, pupil, end);
+    rooms::rest(room, end);
+}
+
+// The same, and the status of the bench afterwards.
+fn outcome(ran: Ran, room: &[u8]) {
     let begun = ran.begun;
     let after = ran.bench;
-    let middle = ran.kit as usize * report::RECORD;
-    let end = middle + ran.pupil as usize * report::RECORD;
-    say::field8(b"code ", bench::code_of(begun));
-    say::field(b", kit ", ran.kit as u64);
-    say::field(b", pupil ", ran.pupil as u64);
-    last(room, ran.kit, middle);
-    last(room, ran.pupil, end);
-    rooms::rest(room, end);
-    say::text(b", ");
-    telling::status(after);
+    answer(begun, ran.kit, ran.pupil, room);
+    telling::status(b", ", after);
 }
 
 // Runs both lists with the front of a room.
@@ -75,7 +80,7 @@ pub fn run(b: Bench, s: &[u8]) {
     let kit = lines::part(&kit, 0, size);
     let pupil = lines::part(&pupil, 0, words::half_at(s, 4) as usize);
     let ran = lent(b, kit, pupil, &mut room, words::half_at(s, 0) as usize);
-    answer(ran, &room);
+    outcome(ran, &room);
 }
 
 // `shown`: a sender, a number, and the sizes of the kit's list and of the pupil's.

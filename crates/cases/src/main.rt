@@ -55,7 +55,7 @@ fn single(line: &[u8], s: &[u8]) {
 // Verbs that leave the bench of the lines as it is.
 fn looked(b: Bench, line: &[u8], s: &[u8]) {
     if lines::begins(line, b"status ") {
-        telling::status(b);
+        telling::status(b"", b);
     } else if lines::begins(line, b"state ") {
         states::state(setting::set(b, s));
     } else if lines::begins(line, b"run ") {
@@ -70,9 +70,9 @@ fn looked(b: Bench, line: &[u8], s: &[u8]) {
 // Verbs that change it and say what came of it, and else the others that print.
 fn answered(b: Bench, line: &[u8], s: &[u8]) -> Bench {
     if lines::begins(line, b"step ") {
-        asking::verdict(b.carry_out(decoded::command(s)))
+        asking::carried(b.carry_out(decoded::command(s)))
     } else if lines::begins(line, b"bytes ") {
-        asking::verdict(b.carry_out_bytes(s))
+        asking::carried(b.carry_out_bytes(s))
     } else if lines::begins(line, b"second ") {
         asking::second(b)
     } else {
@@ -81,7 +81,16 @@ fn answered(b: Bench, line: &[u8], s: &[u8]) -> Bench {
     }
 }
 
-// The quiet verbs, and else those that print a line.
+// The verbs that print: what is tried, and the answer.
+fn printed(b: Bench, line: &[u8], s: &[u8]) -> Bench {
+    say::text(lines::label(line));
+    say::text(b": ");
+    let next = answered(b, line, s);
+    say::text(b"\n");
+    next
+}
+
+// The quiet verbs, and else those that print.
 fn verb(b: Bench, line: &[u8], s: &[u8]) -> Bench {
     if lines::begins(line, b"fresh ") {
         return Bench::fresh();
@@ -98,11 +107,7 @@ fn verb(b: Bench, line: &[u8], s: &[u8]) -> Bench {
     if lines::begins(line, b"set ") {
         return setting::set(b, s);
     }
-    say::text(lines::label(line));
-    say::text(b": ");
-    let next = answered(b, line, s);
-    say::text(b"\n");
-    next
+    printed(b, line, s)
 }
 
 // The bench after a line. A blank line or one that begins with `#` is for the reader alone.

@@ -13,7 +13,7 @@ fn series(name: &[u8], pace: Pace) {
     say::field16(b" images ", pace.count);
 }
 
-// Where the camera looks, and where its mirror is to go.
+// The region and the goal.
 fn aim(f: Frame) {
     say::field16(b", X ", f.x);
     say::field16(b" Y ", f.y);
@@ -50,8 +50,9 @@ fn fields(f: Frame) {
     macros(f);
 }
 
-// The fields of the bench's frame, or 27.
-pub fn status(b: Bench) {
+// The fields of the bench's frame, or 27, behind what parts them from the text before.
+pub fn status(parting: &[u8], b: Bench) {
+    say::text(parting);
     match b.status() {
         Status::Known(f) => fields(f),
         Status::Unsound => say::text(b"status 27"),
