@@ -26,7 +26,7 @@ fn aim(f: Frame) {
 fn modes(f: Frame) {
     say::flag(b", power ", f.power);
     say::flag(b" auto ", f.auto);
-    say::flag(b" loop ", f.tracking);
+    say::flag(b" loop ", f.looping);
     say::field8(b" algorithm ", f.algorithm);
 }
 
