@@ -11,6 +11,7 @@ pub enum Put {
     NoRoom,
 }
 
+// A record at the front of a room: the sender, the code, the parameter, a spare 0, and the number.
 pub fn put_record(room: &mut [u8], sender: u8, code: u8, par: u8, number: u32) -> Put
     ensures { λ r. ⌜ codeOf r ≡ putCode (recordBytes sender code par number) (now (room .entry)) ⌝ }
     ensures { λ r. ⌜ now (room .exit) ≡ written (recordBytes sender code par number) (now (room .entry)) ⌝ }
