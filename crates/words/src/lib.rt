@@ -92,11 +92,11 @@ pub fn put_word(room: &mut [u8], value: u32) -> bool
     if room.len() < WORD {
         return false;
     }
-    // Stored as they are worked out: by way of `word_bytes`, writing a command takes a quarter longer.
-    room[0] = (value / 65536 / 256) as u8;
-    room[1] = (value / 65536 % 256) as u8;
-    room[2] = (value % 65536 / 256) as u8;
-    room[3] = (value % 65536 % 256) as u8;
+    let n = word_bytes(value);
+    room[0] = n[0];
+    room[1] = n[1];
+    room[2] = n[2];
+    room[3] = n[3];
     true
 }
 
