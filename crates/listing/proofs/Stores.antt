@@ -1,4 +1,4 @@
--- Bytes stored from a place on: those of two stores one after another, and what a writer of them leaves.
+-- Bytes laid down in a room from a place on: more of them behind, and what a writer of them answers and leaves.
 use Prim.Native.Nat.{ℕ, _+_, _≤_, _<_}
 use mathlib.Core.Path.{_≡_, sym, ap, _∙_}
 use mathlib.Core.List.{List, _++_}
