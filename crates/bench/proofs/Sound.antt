@@ -27,7 +27,7 @@ use Rattle.store.specs.Effects.{nextEntry}
 use Rattle.store.specs.Sound.{storeSound}
 use Rattle.store.proofs.Sound.{Shaped, Marks, Good, good-of, of-sound, fresh-good, applied-keeps, second-keeps}
 use Rattle.store.proofs.Handed.{handed-plainly}
-use Rattle.store.proofs.Status.{marked-is}
+use Rattle.store.proofs.ClosedMarks.{marked-is}
 use Rattle.bench.specs.declared.Bench.{Bench}
 use Rattle.bench.specs.Status.{freshBench, statusOf, benchSound, statusAt}
 use Rattle.bench.specs.Carry.{outcomeFor, effectOf, commandChecks, carryCode, carryOut, said, bytesChecks, taken, carryBytesCode, carryOutBytes}

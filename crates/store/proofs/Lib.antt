@@ -4,7 +4,7 @@ pub mod WrittenOut
 pub mod Sound
 pub mod Running
 pub mod Handed
-pub mod Status
+pub mod ClosedMarks
 pub mod Unique
 -- and the laws behind these and behind single functions.
 pub mod Flat
