@@ -1,18 +1,22 @@
-# make run: proves and builds what the list program needs, then shows the report for the sample pupil's list.
+# make run: proves and builds what typed lists need, then shows the report for the sample pupil's list.
+# make programs: the same for all programs behind ./bench.
 # make test: every proof, every must-fail edit, every program, and the comparison with the reference; the gate's own line comes last.
 # make mutants: shows that the comparison notices single mistakes. make speed: ratios against plain C.
-.PHONY: run test mutants speed
+.PHONY: run programs test mutants speed
 
 run:
-	rt check list
+	rt check typed
 	@tools/sample
+
+programs:
+	rt check typed assemble lister list
 
 test:
 	@tools/test
 
 # The programs must have been built, by make test.
 mutants:
-	tests/reference/mutants.sh --replay "$$(tools/program --words replay)" --list "$$(tools/program --words list)"
+	@tools/compared tests/reference/mutants.sh
 
 speed:
 	@speed/run

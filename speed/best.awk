@@ -1,5 +1,5 @@
 # Makes one table of several of the same jobs: of each job the best time of each side, and the ratio of the two.
-# A row has its name in columns 1 to 36, the two times in 38 to 49 and 51 to 62, the ratio, and from 73 on the aim or how many commands were accepted.
+# A row has its name in columns 1 to 36, the two times in 38 to 49 and 51 to 62, the ratio, and from 73 on the aim or some other number.
 FNR == 1 { line = 0; first = NR == 1 }
 { line++ }
 first { text[line] = $0; lines = line }
@@ -12,7 +12,7 @@ substr($0, 38, 12) ~ /^ *[0-9.]+$/ {
 END {
     for (i = 1; i <= lines; i++) {
         if (text[i] ~ / aim$/) hasAim = 1
-        if (text[i] ~ / accepted$/) hasAim = 0
+        if (text[i] ~ / (accepted|bytes)$/) hasAim = 0
         if (!(i in best)) {
             print text[i]
             continue

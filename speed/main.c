@@ -1,17 +1,20 @@
 /* Times the proved crates against plain.c, side by side on the same inputs, checks that both give the same, and prints a table of ratios. */
 #include "plain.h"
+#include <stdarg.h>
 #include <stdbool.h>
 #include <stdio.h>
 #include <stdlib.h>
 #include <string.h>
 #include <time.h>
 
-enum { ROUNDS = 40, LEAST = 2000000 /* ns of one round of one side */, LIST = 4096, ROOM = 8192 };
+enum { ROUNDS = 40, LEAST = 2000000 /* ns of one round of one side */, LIST = 4096, ROOM = 8192, ROOMS = 2 * ROOM };
+enum { UNTOUCHED = 0xa5 /* what a room is filled with beforehand */ };
 
 static uint8_t commands[256], frames[256];
 
+/* A raw list, or a typed one. */
 struct list {
-    uint8_t bytes[LIST];
+    uint8_t bytes[ROOM];
     size_t size;
 };
 
@@ -143,17 +146,127 @@ static void make_frames(void)
     }
 }
 
+enum layout { BARE, BYTE, HALF, HALVES, SINGLES };
+enum flags { EITHER, NEVER, ALWAYS };
+
+/* The fifteen commands as they are typed, with the limits of their arguments; those of goals in quarters. */
+static const struct form {
+    const char *name;
+    unsigned opcode;
+    enum layout layout;
+    enum flags flags;
+    struct { uint32_t least, most; } limits[2];
+} forms[] = {
+    { "img_pwr", 0x0114, BYTE, EITHER, { { 0, 1 } } },
+    { "img_region", 0x0117, HALVES, EITHER, { { 0, 1023 }, { 0, 1023 } } },
+    { "img_track", 0x0118, HALVES, EITHER, { { 0, 65535 }, { 1, 65535 } } },
+    { "trk_alg", 0x0148, BYTE, EITHER, { { 0, 2 } } },
+    { "trk_loop", 0x014b, BYTE, EITHER, { { 0, 1 } } },
+    { "img_image", 0x0150, HALVES, EITHER, { { 0, 65535 }, { 1, 65535 } } },
+    { "trk_goal", 0x0153, SINGLES, EITHER, { { 0, 4095 }, { 0, 4095 } } },
+    { "tlm_flush", 0x015a, BARE, EITHER, { { 0 } } },
+    { "flush_auto", 0x015c, BYTE, EITHER, { { 0, 1 } } },
+    { "open", 0x7f01, BYTE, NEVER, { { 0, 7 } } },
+    { "close", 0x7f02, BARE, NEVER, { { 0 } } },
+    { "run", 0x7f03, BYTE, EITHER, { { 0, 7 } } },
+    { "wait", 0x7f04, HALF, ALWAYS, { { 1, 600 } } },
+    { "stop", 0x7f05, BARE, NEVER, { { 0 } } },
+    { "clear", 0x7f06, BARE, NEVER, { { 0 } } },
+};
+
+/* A list in both its ways of writing. */
+struct typed {
+    struct list raw, text;
+};
+
+static void append_text(struct list *l, const char *format, ...)
+{
+    va_list words;
+    va_start(words, format);
+    int n = vsnprintf((char *)l->bytes + l->size, ROOM - l->size, format, words);
+    va_end(words);
+    if (n < 0 || l->size + (size_t)n >= ROOM) {
+        fprintf(stderr, "a text is too long\n");
+        exit(1);
+    }
+    l->size += (size_t)n;
+}
+
+/* Arguments of one to five digits, where the limits have room for them. */
+static uint32_t argument(const struct form *f, unsigned k, unsigned i)
+{
+    static const uint32_t sizes[] = { 3, 47, 512, 8191, 60001 };
+    uint32_t least = f->limits[k].least, most = f->limits[k].most;
+    return least + (sizes[(i / 15 + 2 * k) % 5] + i) % (most - least + 1);
+}
+
+static uint32_t goal_bits(uint32_t quarters)
+{
+    float goal = (float)quarters / 4;
+    uint32_t bits;
+    memcpy(&bits, &goal, sizeof bits);
+    return bits;
+}
+
+static void append_line(struct list *l, const struct form *f, bool flag, const uint32_t *values)
+{
+    static const unsigned arguments[] = { [BARE] = 0, [BYTE] = 1, [HALF] = 1, [HALVES] = 2, [SINGLES] = 2 };
+    static const char *const endings[] = { "", ".25", ".5", ".75" };
+    append_text(l, "%s%s", flag ? "+" : "", f->name);
+    for (unsigned k = 0; k < arguments[f->layout]; k++) {
+        if (f->layout == SINGLES) append_text(l, " %u%s", values[k] / 4, endings[values[k] % 4]);
+        else append_text(l, " %u", values[k]);
+    }
+    append_text(l, "\n");
+}
+
+static void append_typed(struct typed *t, const struct form *f, unsigned i)
+{
+    bool flag = f->flags == ALWAYS || (f->flags == EITHER && i % 2);
+    uint32_t values[2] = { argument(f, 0, i), argument(f, 1, i) };
+    append_line(&t->text, f, flag, values);
+    switch (f->layout) {
+    case BARE: append(&t->raw, f->opcode, flag, 2, 0, 0); break;
+    case BYTE: append(&t->raw, f->opcode, flag, 3, values[0] << 24, 0); break;
+    case HALF: append(&t->raw, f->opcode, flag, 3, values[0] << 16, 0); break;
+    case HALVES: append(&t->raw, f->opcode, flag, 3, values[0] << 16 | values[1], 0); break;
+    case SINGLES: append(&t->raw, f->opcode, flag, 4, goal_bits(values[0]), goal_bits(values[1])); break;
+    }
+}
+
+/* The fifteen commands, far ones next to each other, so that few are a fair mixture too. */
+static void mixed_line(struct typed *t, unsigned i)
+{
+    append_typed(t, &forms[i * 7 % 15], i);
+}
+
+/* The four commands without arguments: only of them a list can have 512. */
+static void bare_line(struct typed *t, unsigned i)
+{
+    static const unsigned bare[] = { 7, 10, 13, 14 };
+    append_typed(t, &forms[bare[i % 4]], i / 4);
+}
+
 /* One job on both sides. */
-enum which { READ, WRITE, FRAME_READ, FRAME_WRITE, RUNS, SECONDS };
+enum which { READ, WRITE, FRAME_READ, FRAME_WRITE, RUNS, SECONDS, ASSEMBLE, LISTING };
 
 struct job {
     const char *name;
     enum which which;
-    struct list kit, pupil;
-    uint32_t units; /* what one time counts for: commands of a run, seconds */
+    struct list kit, pupil; /* of assembling and listing: the first list and the second */
+    uint32_t units;         /* what one time counts for: commands of a run or of lists, seconds */
     double aim;
     double ours, plain; /* nanoseconds a unit, best of the rounds */
 };
+
+/* Assembles or lists these bytes. */
+static uint64_t translate(enum which which, bool ours, const struct list *l, uint8_t *room, uint32_t times)
+{
+    if (which == ASSEMBLE) {
+        return ours ? timing_assemble(l->bytes, l->size, room, ROOM, times) : plain_assemble(l->bytes, l->size, room, ROOM, times);
+    }
+    return ours ? timing_list(l->bytes, l->size, room, ROOM, times) : plain_list(l->bytes, l->size, room, ROOM, times);
+}
 
 static uint64_t do_job(const struct job *j, bool ours, uint8_t *room, uint32_t times)
 {
@@ -169,9 +282,13 @@ static uint64_t do_job(const struct job *j, bool ours, uint8_t *room, uint32_t t
     case RUNS:
         return ours ? timing_run(j->kit.bytes, j->kit.size, j->pupil.bytes, j->pupil.size, room, ROOM, times)
                     : plain_run(j->kit.bytes, j->kit.size, j->pupil.bytes, j->pupil.size, room, ROOM, times);
-    default:
+    case SECONDS:
         return ours ? timing_seconds(j->kit.bytes, j->kit.size, room, ROOM, j->units, times)
                     : plain_seconds(j->kit.bytes, j->kit.size, room, ROOM, j->units, times);
+    default: {
+        uint64_t sum = translate(j->which, ours, &j->kit, room, times);
+        return j->pupil.size == 0 ? sum : sum * 31 + translate(j->which, ours, &j->pupil, room + ROOM, times);
+    }
     }
 }
 
@@ -194,21 +311,27 @@ static double timed(const struct job *j, bool ours, uint8_t *room, uint32_t time
     return (now() - start) / (double)times / (double)j->units;
 }
 
+static void best_of(double *best, double time)
+{
+    if (time < *best) *best = time;
+}
+
+/* Both sides must give the same. Then they are timed in turn, and each round the other one begins. */
 static void measure(struct job *j)
 {
-    static uint8_t rooms[2][ROOM];
-    memset(rooms, 0xa5, sizeof rooms);
+    static uint8_t rooms[2][ROOMS];
+    memset(rooms, UNTOUCHED, sizeof rooms);
     uint64_t plain = do_job(j, false, rooms[0], 100), ours = do_job(j, true, rooms[1], 100);
-    if (plain != ours || memcmp(rooms[0], rooms[1], ROOM) != 0) {
+    if (plain != ours || memcmp(rooms[0], rooms[1], ROOMS) != 0) {
         printf("%s: the two sides differ (%016llx, %016llx)\n", j->name, (unsigned long long)plain, (unsigned long long)ours);
         exit(1);
     }
     uint32_t plain_times = enough(j, false, rooms[0]), our_times = enough(j, true, rooms[1]);
     j->ours = j->plain = 1e30;
     for (int round = 0; round < ROUNDS; round++) {
-        double p = timed(j, false, rooms[0], plain_times), o = timed(j, true, rooms[1], our_times);
-        if (p < j->plain) j->plain = p;
-        if (o < j->ours) j->ours = o;
+        if (round % 2 == 0) best_of(&j->plain, timed(j, false, rooms[0], plain_times));
+        best_of(&j->ours, timed(j, true, rooms[1], our_times));
+        if (round % 2 == 1) best_of(&j->plain, timed(j, false, rooms[0], plain_times));
     }
 }
 
@@ -218,6 +341,41 @@ static struct job run_job(const char *name, void (*put)(struct list *, unsigned)
     struct job j = { .name = name, .which = RUNS, .units = n, .aim = 3.0 };
     for (unsigned i = 0; i < n; i++) put(i < n / 2 ? &j.kit : &j.pupil, i);
     return j;
+}
+
+/* What one job makes is what the other takes, and no byte more. */
+static void check_made(const struct job *j, const struct job *other)
+{
+    static uint8_t room[ROOMS], wanted[ROOMS];
+    memset(room, UNTOUCHED, ROOMS);
+    memset(wanted, UNTOUCHED, ROOMS);
+    memcpy(wanted, other->kit.bytes, other->kit.size);
+    memcpy(wanted + ROOM, other->pupil.bytes, other->pupil.size);
+    do_job(j, false, room, 1);
+    if (memcmp(room, wanted, ROOMS) != 0) {
+        printf("%u %s: made something else than was typed\n", j->units, j->name);
+        exit(1);
+    }
+}
+
+/* How lists are filled, and how many commands one of them is given at most. */
+static const struct filling {
+    void (*put)(struct typed *, unsigned);
+    unsigned most;
+    const char *assembled, *listed;
+} mixed = { mixed_line, 256, "mixed commands assembled", "mixed commands listed" },
+  bare = { bare_line, 512, "bare commands assembled", "bare commands listed" };
+
+/* The same n commands to assemble and to list, in one list or in two. */
+static void typed_jobs(struct job *assembling, struct job *listing, const struct filling *f, unsigned n)
+{
+    static struct typed lists[2];
+    memset(lists, 0, sizeof lists);
+    for (unsigned i = 0; i < n; i++) f->put(&lists[i / f->most], i);
+    *assembling = (struct job){ .name = f->assembled, .which = ASSEMBLE, .kit = lists[0].text, .pupil = lists[1].text, .units = n, .aim = 1.5 };
+    *listing = (struct job){ .name = f->listed, .which = LISTING, .kit = lists[0].raw, .pupil = lists[1].raw, .units = n, .aim = 1.5 };
+    check_made(assembling, listing);
+    check_made(listing, assembling);
 }
 
 /* How many records of a run have code 0. */
@@ -231,13 +389,38 @@ static unsigned accepted(const struct job *j)
     return n;
 }
 
-int main(int argc, char **argv)
+/* How many bytes are assembled or listed. */
+static unsigned taken(const struct job *j)
 {
-    static struct job jobs[7], growth[6];
-    static const unsigned sizes[] = { 8, 64, 512 };
-    const char *note = argc > 1 ? argv[1] : "";
-    make_commands();
-    make_frames();
+    return (unsigned)(j->kit.size + j->pupil.size);
+}
+
+static void print_jobs(struct job *jobs, int n)
+{
+    printf("%-36s %12s %12s %8s %6s\n", "job", "Rattle ns", "C ns", "ratio", "aim");
+    for (struct job *j = jobs; j < jobs + n; j++) {
+        measure(j);
+        printf("%-36s %12.1f %12.1f %8.2f %6.1f%s\n", j->name, j->ours * j->units, j->plain * j->units, j->ours / j->plain, j->aim,
+               j->ours / j->plain <= j->aim ? "" : "  missed");
+    }
+}
+
+/* The time of one unit, and one more number of each job. */
+static void print_growth(struct job *jobs, int n, const char *of, const char *heading, unsigned (*number)(const struct job *))
+{
+    printf("\n%-36s %12s %12s %8s %9s\n", of, "Rattle ns", "C ns", "ratio", heading);
+    for (struct job *j = jobs; j < jobs + n; j++) {
+        char name[40];
+        measure(j);
+        snprintf(name, sizeof name, "%u %s", j->units, j->name);
+        printf("%-36s %12.1f %12.1f %8.2f %9u\n", name, j->ours, j->plain, j->ours / j->plain, number(j));
+    }
+}
+
+enum { ALL = 11, SIZES = 3 };
+
+static void make_jobs(struct job *jobs)
+{
     jobs[0] = (struct job){ .name = "reading a command", .which = READ, .units = 1, .aim = 1.2 };
     jobs[1] = (struct job){ .name = "writing a command", .which = WRITE, .units = 1, .aim = 1.2 };
     jobs[2] = (struct job){ .name = "reading a frame", .which = FRAME_READ, .units = 1, .aim = 1.2 };
@@ -246,24 +429,31 @@ int main(int argc, char **argv)
     jobs[5] = run_job("a run of 512 macro commands", macro_command, 512);
     jobs[6] = (struct job){ .name = "600 seconds of an eight-deep macro", .which = SECONDS, .units = 600, .aim = 3.0 };
     deep_list(&jobs[6].kit);
-    for (int i = 0; i < 3; i++) {
-        growth[i] = run_job("plain", plain_command, sizes[i]);
-        growth[3 + i] = run_job("macro", macro_command, sizes[i]);
-    }
+    typed_jobs(&jobs[7], &jobs[8], &mixed, 512);
+    typed_jobs(&jobs[9], &jobs[10], &bare, 512);
+    jobs[7].name = "assembling 512 mixed commands";
+    jobs[8].name = "listing 512 mixed commands";
+    jobs[9].name = "assembling 512 bare commands";
+    jobs[10].name = "listing 512 bare commands";
+}
 
+int main(int argc, char **argv)
+{
+    static const unsigned sizes[SIZES] = { 8, 64, 512 };
+    static struct job jobs[ALL], runs[2 * SIZES], lines[4 * SIZES];
+    const char *note = argc > 1 ? argv[1] : "";
+    make_commands();
+    make_frames();
+    make_jobs(jobs);
+    for (int i = 0; i < SIZES; i++) {
+        runs[i] = run_job("plain commands", plain_command, sizes[i]);
+        runs[SIZES + i] = run_job("macro commands", macro_command, sizes[i]);
+        typed_jobs(&lines[i], &lines[SIZES + i], &mixed, sizes[i]);
+        typed_jobs(&lines[2 * SIZES + i], &lines[3 * SIZES + i], &bare, sizes[i]);
+    }
     printf("Rattle against plain C (gcc -O2), both x86-64, same inputs, same results; best of %d rounds.%s%s\n\n", ROUNDS, *note ? " " : "", note);
-    printf("%-36s %12s %12s %8s %6s\n", "job", "Rattle ns", "C ns", "ratio", "aim");
-    for (int i = 0; i < 7; i++) {
-        measure(&jobs[i]);
-        printf("%-36s %12.1f %12.1f %8.2f %6.1f%s\n", jobs[i].name, jobs[i].ours * jobs[i].units, jobs[i].plain * jobs[i].units,
-               jobs[i].ours / jobs[i].plain, jobs[i].aim, jobs[i].ours / jobs[i].plain <= jobs[i].aim ? "" : "  missed");
-    }
-    printf("\n%-36s %12s %12s %8s %9s\n", "growth: one command of a run of", "Rattle ns", "C ns", "ratio", "accepted");
-    for (int i = 0; i < 6; i++) {
-        char name[40];
-        measure(&growth[i]);
-        snprintf(name, sizeof name, "%u %s commands", growth[i].units, growth[i].name);
-        printf("%-36s %12.1f %12.1f %8.2f %9u\n", name, growth[i].ours, growth[i].plain, growth[i].ours / growth[i].plain, accepted(&growth[i]));
-    }
+    print_jobs(jobs, ALL);
+    print_growth(runs, 2 * SIZES, "growth: one command of a run of", "accepted", accepted);
+    print_growth(lines, 4 * SIZES, "growth: one line of", "bytes", taken);
     return 0;
 }

@@ -1,10 +1,11 @@
 /* The bench of 01-scope.md in plain C, written from that page: the state is one struct that is passed by pointer and changed in place.
-   It does the same jobs as crates/timing and folds their results in the same way. */
+   It does the same jobs as crates/timing and folds their results in the same way. Typed lists are assembled and listed by the rules of request Q-1. */
 #include "plain.h"
 #include <stdbool.h>
 #include <string.h>
 
 enum { MACROS = 8, ENTRIES = 24, NONE = 255, LONGEST = 600, FOR_EVER = 65535, LIST = 4096, ROOM = 8192 };
+enum { TEXT = 32768, DIGITS = 5, LISTED = 8192 /* above the 7,846 bytes that a list's text has at most */ };
 
 enum kind {
     IMG_PWR, IMG_REGION, IMG_TRACK, TRK_ALG, TRK_LOOP, IMG_IMAGE, TRK_GOAL, TLM_FLUSH, FLUSH_AUTO, OPEN, CLOSE, RUN, WAIT, STOP, CLEAR
@@ -529,6 +530,237 @@ static uint8_t second(struct bench *b, const struct command **handed)
     return 0;
 }
 
+/* Typed lists: one command a line, as names and decimal arguments. */
+
+struct name {
+    const char *text;
+    uint8_t length, arguments;
+};
+
+static const struct name names[] = {
+    { "img_pwr", 7, 1 }, { "img_region", 10, 2 }, { "img_track", 9, 2 }, { "trk_alg", 7, 1 }, { "trk_loop", 8, 1 },
+    { "img_image", 9, 2 }, { "trk_goal", 8, 2 }, { "tlm_flush", 9, 0 }, { "flush_auto", 10, 1 }, { "open", 4, 1 },
+    { "close", 5, 0 }, { "run", 3, 1 }, { "wait", 4, 1 }, { "stop", 4, 0 }, { "clear", 5, 0 }
+};
+
+enum { KINDS = sizeof names / sizeof names[0] };
+
+/* A part of a line, between blanks. */
+struct word {
+    const uint8_t *start;
+    size_t size;
+};
+
+static int kind_named(struct word w)
+{
+    for (int k = 0; k < KINDS; k++) {
+        if (names[k].length == w.size && memcmp(names[k].text, w.start, w.size) == 0) return k;
+    }
+    return -1;
+}
+
+/* The digits at the front of a word, up to one too many, and their value. */
+static size_t digits(struct word w, uint32_t *value)
+{
+    size_t n = 0;
+    *value = 0;
+    while (n < w.size && n <= DIGITS && w.start[n] >= '0' && w.start[n] <= '9') *value = *value * 10 + (w.start[n++] - '0');
+    return n;
+}
+
+static bool whole(struct word w, uint32_t *value)
+{
+    size_t n = digits(w, value);
+    return n >= 1 && n <= DIGITS && n == w.size;
+}
+
+static bool goal(struct word w, float *value)
+{
+    uint32_t v;
+    size_t n = digits(w, &v);
+    if (n < 1 || n > DIGITS) return false;
+    const uint8_t *end = w.start + n;
+    *value = (float)v;
+    switch (w.size - n) {
+    case 0:
+        return true;
+    case 2:
+        *value += 0.5f;
+        return end[0] == '.' && end[1] == '5';
+    case 3:
+        *value += end[1] == '2' ? 0.25f : 0.75f;
+        return end[0] == '.' && (end[1] == '2' || end[1] == '7') && end[2] == '5';
+    }
+    return false;
+}
+
+/* 8 where a number is too large for its field; the rest of 8 to 10 is left to the writer. */
+static struct told set_numbers(struct command *c, uint32_t first, uint32_t second)
+{
+    switch (c->kind) {
+    case IMG_PWR: case TRK_ALG: case TRK_LOOP: case FLUSH_AUTO: case OPEN: case RUN:
+        if (first > 255) return told(8, 1);
+        c->mode = (uint8_t)first;
+        break;
+    case WAIT:
+        if (first > 65535) return told(8, 1);
+        c->seconds = (uint16_t)first;
+        break;
+    case IMG_REGION: case IMG_TRACK: case IMG_IMAGE:
+        if (first > (c->kind == IMG_REGION ? 1023 : 65535)) return told(8, 1);
+        if (second > 65535) return told(8, 2);
+        c->first = (uint16_t)first;
+        c->second = (uint16_t)second;
+        break;
+    }
+    return told(0, 0);
+}
+
+/* 30, 32, 31, then 8 as above, on a line that is neither empty nor a remark. */
+static struct told read_line(const uint8_t *s, size_t size, struct command *c)
+{
+    struct word words[3]; /* the name and two arguments */
+    size_t count = 0, start = s[0] == '+';
+    c->flag = s[0] == '+';
+    for (size_t at = start; at <= size; at++) {
+        if (at < size && s[at] != ' ') continue;
+        if (count < 3) words[count] = (struct word){ s + start, at - start };
+        count++;
+        start = at + 1;
+    }
+    int kind = kind_named(words[0]);
+    if (kind < 0) return told(30, 0);
+    if (count != names[kind].arguments + 1u) return told(32, 0);
+    c->kind = (uint8_t)kind;
+    if (kind == TRK_GOAL) {
+        float x, y;
+        if (!goal(words[1], &x) || !goal(words[2], &y)) return told(31, 0);
+        c->x = x;
+        c->y = y;
+        return told(0, 0);
+    }
+    uint32_t numbers[2] = { 0, 0 };
+    for (size_t i = 1; i < count; i++) {
+        if (!whole(words[i], &numbers[i - 1])) return told(31, 0);
+    }
+    return set_numbers(c, numbers[0], numbers[1]);
+}
+
+/* What became of a text or a list: code, parameter, the line or the command that was refused (0 where it is neither), bytes written. */
+struct placed {
+    struct told told;
+    uint32_t place;
+    size_t bytes;
+};
+
+static struct placed placed(struct told t, uint32_t place, size_t bytes)
+{
+    struct placed p = { t, place, bytes };
+    return p;
+}
+
+/* 20, the first bad line, 20, 24. The list is made beside the room, so that a refusal leaves the room alone. */
+static struct placed assembled(const uint8_t *text, size_t size, uint8_t *room, size_t fits)
+{
+    uint8_t list[LIST];
+    size_t made = 0;
+    uint32_t line = 0;
+    bool too_long = false;
+    if (size > TEXT) return placed(told(20, 0), 0, 0);
+    for (size_t at = 0, end; at < size; at = end + 1) {
+        const uint8_t *feed = memchr(text + at, '\n', size - at);
+        end = feed != NULL ? (size_t)(feed - text) : size;
+        line++;
+        if (end == at || text[at] == '#') continue;
+        struct command c;
+        size_t n = 0;
+        struct told t = read_line(text + at, end - at, &c);
+        if (t.code == 0) t = write_command(&c, list + made, LIST - made, &n);
+        if (t.code == 24) too_long = true; /* a bad line further down still comes first */
+        else if (t.code != 0) return placed(t, line, 0);
+        made += n;
+    }
+    if (too_long) return placed(told(20, 0), 0, 0);
+    if (made > fits) return placed(told(24, 0), 0, 0);
+    memcpy(room, list, made);
+    return placed(told(0, 0), 0, made);
+}
+
+static uint8_t *put_number(uint8_t *out, uint32_t value)
+{
+    uint8_t reversed[10];
+    unsigned n = 0;
+    do {
+        reversed[n++] = (uint8_t)('0' + value % 10);
+        value /= 10;
+    } while (value != 0);
+    while (n > 0) *out++ = reversed[--n];
+    return out;
+}
+
+/* A goal that is allowed; NULL where it is no number of quarters. */
+static uint8_t *put_goal(uint8_t *out, float value)
+{
+    static const char *const endings[] = { "", ".25", ".5", ".75" };
+    uint32_t quarters = (uint32_t)(value * 4);
+    if (bits((float)quarters / 4) != bits(value)) return NULL;
+    out = put_number(out, quarters / 4);
+    for (const char *s = endings[quarters % 4]; *s != '\0'; s++) *out++ = (uint8_t)*s;
+    return out;
+}
+
+/* The line of a command that passed 1 to 10; NULL for 33. */
+static uint8_t *put_line(uint8_t *out, const struct command *c)
+{
+    if (c->flag) *out++ = '+';
+    memcpy(out, names[c->kind].text, names[c->kind].length);
+    out += names[c->kind].length;
+    if (names[c->kind].arguments > 0) *out++ = ' ';
+    switch (c->kind) {
+    case IMG_PWR: case TRK_ALG: case TRK_LOOP: case FLUSH_AUTO: case OPEN: case RUN:
+        out = put_number(out, c->mode);
+        break;
+    case WAIT:
+        out = put_number(out, c->seconds);
+        break;
+    case IMG_REGION: case IMG_TRACK: case IMG_IMAGE:
+        out = put_number(out, c->first);
+        *out++ = ' ';
+        out = put_number(out, c->second);
+        break;
+    case TRK_GOAL:
+        out = put_goal(out, c->x);
+        if (out == NULL) return NULL;
+        *out++ = ' ';
+        out = put_goal(out, c->y);
+        if (out == NULL) return NULL;
+        break;
+    }
+    *out++ = '\n';
+    return out;
+}
+
+/* 20, the first bad command, 24. The text is made beside the room, as above. */
+static struct placed listed(const uint8_t *list, size_t size, uint8_t *room, size_t fits)
+{
+    uint8_t text[LISTED], *out = text;
+    uint32_t number = 0;
+    size_t reach;
+    if (size > LIST) return placed(told(20, 0), 0, 0);
+    for (size_t at = 0; at < size; at += reach) {
+        struct command c;
+        number++;
+        struct told t = read_command(list + at, size - at, &c, &reach);
+        if (t.code != 0) return placed(t, number, 0);
+        out = put_line(out, &c);
+        if (out == NULL) return placed(told(33, 0), number, 0);
+    }
+    size_t made = (size_t)(out - text);
+    if (made > fits) return placed(told(24, 0), 0, 0);
+    memcpy(room, text, made);
+    return placed(told(0, 0), 0, made);
+}
+
 /* The measured jobs, as in crates/timing. */
 
 static uint64_t mixed(uint64_t sum, uint64_t value)
@@ -562,6 +794,11 @@ static uint64_t with_command(uint64_t sum, const struct command *c)
 static uint64_t with_told(uint64_t sum, struct told t)
 {
     return mixed(mixed(sum, t.code), t.par);
+}
+
+static uint64_t with_placed(uint64_t sum, struct placed p)
+{
+    return mixed(mixed(with_told(sum, p.told), p.place), p.bytes);
 }
 
 static uint64_t with_frame(uint64_t sum, const struct frame *f)
@@ -680,4 +917,18 @@ uint64_t plain_seconds(const uint8_t *list, size_t size, uint8_t *room, size_t f
         }
     }
     return with_status(sum, &b);
+}
+
+uint64_t plain_assemble(const uint8_t *text, size_t size, uint8_t *room, size_t fits, uint32_t times)
+{
+    uint64_t sum = 0;
+    for (uint32_t i = 0; i < times; i++) sum = with_placed(sum, assembled(text, size, room, fits));
+    return sum;
+}
+
+uint64_t plain_list(const uint8_t *list, size_t size, uint8_t *room, size_t fits, uint32_t times)
+{
+    uint64_t sum = 0;
+    for (uint32_t i = 0; i < times; i++) sum = with_placed(sum, listed(list, size, room, fits));
+    return sum;
 }

@@ -3,15 +3,15 @@
 # demands that the comparison notices it. Without arguments the mistaken
 # reference is compared with the right one; otherwise with the given programs.
 #
-# usage: mutants.sh [--replay "CMD" --list "CMD"]
+# usage: mutants.sh [--replay "CMD" --list "CMD" --typed "CMD" --assemble "CMD" --lister "CMD"]
 set -euo pipefail
 
 here=$(cd "$(dirname "$0")" && pwd)
 work=$(mktemp -d)
 trap 'rm -rf "$work"' EXIT
 
-# The fixed scripts have about 36,000 answers, so this is some random ones more.
-amount=(--answers 60000 --lists 5)
+# The fixed scripts have about 63,000 answers, so this is some random ones more.
+amount=(--answers 80000 --lists 5 --inputs 5)
 
 # A mistake may well make a number overflow; that is to show as a difference
 # in the transcript, not as a reference that stops.
@@ -20,6 +20,15 @@ export CARGO_PROFILE_DEV_DEBUG=false
 
 build() {
     (cd "$work" && cargo build --offline --quiet "$@")
+}
+
+# Compares whatever reference was built last with the programs.
+compare() {
+    local programs=() name
+    for name in "${names[@]}"; do
+        programs+=("--$name" "${commands[$name]}")
+    done
+    "$work/target/debug/compare" "${programs[@]}" "${amount[@]}"
 }
 
 # The value of one field of a mutant's file.
@@ -54,8 +63,7 @@ try_mutant() {
         echo "NOT NOTICED $name (it does not build)"
         return 1
     fi
-    "$work/target/debug/compare" --replay "$replay" --list "$list" "${amount[@]}" \
-        >"$work/report" 2>&1 || status=$?
+    compare >"$work/report" 2>&1 || status=$?
     if [ "$status" -eq 1 ] && grep -q '^first differing line' "$work/report"; then
         echo "noticed $name: $(in_short "$work/report")"
     else
@@ -64,27 +72,29 @@ try_mutant() {
     fi
 }
 
-replay="$work/replay_ref"
-list="$work/list_ref"
+names=(replay list typed assemble lister)
+declare -A commands
+for name in "${names[@]}"; do
+    commands[$name]="$work/${name}_ref"
+done
 while [ $# -gt 0 ]; do
-    case "$1" in
-    --replay) replay=$2 ;;
-    --list) list=$2 ;;
-    *)
-        echo "usage: mutants.sh [--replay \"CMD\" --list \"CMD\"]" >&2
+    name=${1#--}
+    if [ $# -lt 2 ] || [ "$name" = "$1" ] || [ -z "${commands[$name]:-}" ]; then
+        echo "usage: mutants.sh [--replay \"CMD\" --list \"CMD\" --typed \"CMD\" --assemble \"CMD\" --lister \"CMD\"]" >&2
         exit 2
-        ;;
-    esac
+    fi
+    commands[$name]=$2
     shift 2
 done
 
 cp -r "$here/Cargo.toml" "$here/Cargo.lock" "$here/src" "$work/"
 build
-cp "$work/target/debug/replay_ref" "$work/target/debug/list_ref" "$work/"
+for name in "${names[@]}"; do
+    cp "$work/target/debug/${name}_ref" "$work/"
+done
 
 # Without this a comparison that always finds something would look perfect.
-if ! "$work/target/debug/compare" --replay "$replay" --list "$list" "${amount[@]}" \
-    >"$work/report" 2>&1; then
+if ! compare >"$work/report" 2>&1; then
     cat "$work/report"
     echo "the reference differs before any mistake is put in"
     exit 1

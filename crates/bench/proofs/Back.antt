@@ -8,7 +8,7 @@ use lib.Dec.{eqb}
 use Rattle.wire.specs.declared.kinds.Command.{Command}
 use Rattle.wire.specs.declared.decoding.Reading.{Reading}
 use Rattle.wire.specs.Judge.{toldWith}
-use Rattle.wire.specs.Read.{Answer, answerOf, lengthOf, readCode, readOf}
+use Rattle.wire.specs.Read.{Answer, answerOf, lengthOf, readCode, readOf, said}
 use Rattle.wire.specs.Write.{wroteAt, roomAfter}
 use Rattle.wire.proofs.Front.{Bytes}
 use Rattle.wire.proofs.Calls as commands
@@ -17,7 +17,6 @@ use Rattle.frame.specs.Bytes.{frameAt}
 use Rattle.frame.specs.Answers as answers
 use Rattle.frame.proofs.Answers.{takenAs}
 use Rattle.frame.proofs.Calls as frames
-use Rattle.bench.specs.Carry.{said}
 
 -- A reading that took a command found no row due, and took the command that the bytes say.
 pub command-read : (s : List ℕ) (c : Command) → readOf s ≡ answerOf (Reading.Taken c) → (readCode s ≡ 0) × (said s ≡ c)

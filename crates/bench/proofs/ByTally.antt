@@ -9,7 +9,7 @@ use Rattle.wire.specs.declared.kinds.Command.{Command}
 use Rattle.wire.specs.declared.judging.Told.{Told}
 use Rattle.wire.specs.Codes.{Check, firstOf}
 use Rattle.wire.specs.Judge.{argChecks, toldWith, firstBadIn, parOf}
-use Rattle.wire.specs.Read.{answerFor, readChecks}
+use Rattle.wire.specs.Read.{answerFor, readChecks, said}
 use Rattle.wire.proofs.FirstOf.{Coded, first-append}
 use Rattle.camera.specs.declared.Camera.{Camera}
 use Rattle.store.specs.declared.Store.{Store}
@@ -18,7 +18,7 @@ use Rattle.store.specs.Checks.{permitCode, storeChecks}
 use Rattle.store.specs.TallySteps.{storeOf, tallyChecks, tallyCode, tallyAfter, entriesAfter, Tallied}
 use Rattle.store.proofs.Tallies.{tallied-code, tallied-effect, tallied-after}
 use Rattle.bench.specs.declared.Bench.{Bench}
-use Rattle.bench.specs.Carry.{cameraAfter, commandChecks, outcomeFor, carryOut, said, bytesChecks, taken, carryOutBytes}
+use Rattle.bench.specs.Carry.{cameraAfter, commandChecks, outcomeFor, carryOut, bytesChecks, taken, carryOutBytes}
 use Rattle.bench.specs.Steps.{decidedBy, decidedIn, effectBy, tallyBy, carriedBy}
 use Rattle.bench.proofs.Outcomes.{judge-coded, read-coded, judge-then, carry-code, sound-bytes}
 use Rattle.bench.proofs.Sound.{GoodBench, Accepted, good-store, judge-accepted, read-accepted}

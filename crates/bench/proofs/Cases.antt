@@ -1,29 +1,41 @@
--- 01, "Examples on each side of a line": all of the starred cases, of single commands, of series and of macros, as one list under one claim.
+-- 01, "Examples on each side of a line": all of the starred cases, of single commands, of series and of macros, as one list under one claim; and a
+-- typed list.
 use Prim.Native.Nat.{ℕ, zero, suc}
+use Prim.Native.String.{String}
 use mathlib.Core.Path.{_≡_, refl}
-use mathlib.Core.List.{List, [], _∷_}
+use mathlib.Core.List.{List, [], _∷_, _++_}
 use mathlib.Core.Bool.{Bool, true, false}
 use lib.ListN.{length, set, replicate}
 use lib.IntN.{pos, negsuc}
 use lib.Ieee.{Float, nan, fin, ofBits, toBits}
 use Rattle.words.specs.BigEndian.{bytesOf}
+use Rattle.words.specs.Text.{ascii}
 use Rattle.wire.specs.declared.kinds.Kind.{Kind}
 use Rattle.wire.specs.declared.kinds.Command.{Command}
 use Rattle.wire.specs.Judge.{toldWith, judgeCode}
-use Rattle.wire.specs.Read.{sumOf, readOf}
-use Rattle.wire.specs.Write.{commandBytes}
+use Rattle.wire.specs.Read.{sumOf, readOf, spanOf}
+use Rattle.wire.specs.Write.{commandBytes, listBytes}
 use Rattle.frame.specs.Rules.{frameRule}
 use Rattle.camera.specs.declared.Camera.{Camera}
 use Rattle.camera.specs.Series.{freshSeries, seriesWith, secondOf}
 use Rattle.camera.specs.Camera.{freshCamera, withSeries, withRegion, withGoal, withModes, withFlushes}
+use Rattle.walk.specs.Walk.{rests}
+use Rattle.report.specs.Record.{recordBytes}
+use Rattle.text.specs.Split.{linesOf, wordsOf, sameText}
+use Rattle.text.specs.Number.{digitsIn, wholeOf}
+use Rattle.text.specs.Names.{formNamed}
+use Rattle.text.specs.Line.{typedAs, lineOf}
+use Rattle.text.specs.Assemble.{commandsIn, numbersIn}
 use Rattle.store.specs.Slots.{slotAt, entriesOf, kept}
 use Rattle.store.specs.WrittenOut.{expand, flatBelow, flat, seconds, writtenOut}
 use Rattle.store.specs.Effects.{storeWith, freshSlots, freshStore, appliedOf}
 use Rattle.store.specs.Sound.{allBelow, allOf, storeSound}
 use Rattle.bench.specs.declared.Bench.{Bench}
 use Rattle.bench.specs.Status.{freshBench, benchSound}
-use Rattle.bench.specs.Carry.{carryOut, carryOutBytes}
+use Rattle.bench.specs.Carry.{carryOut, taken, carryOutBytes}
 use Rattle.bench.specs.Second.{SecondTold, secondAt}
+use Rattle.bench.specs.Run.{runRests}
+use Rattle.bench.specs.Typed.{typedReport}
 use Rattle.bench.specs.Events.{Event, bytes, after}
 
 -- What a case is: commands are given as their 32-bit words.
@@ -42,6 +54,8 @@ pub data Case : Type 0 where
   hands : List (List ℕ) → List (List Kind) → Case
   -- after these commands: the running macro, 255 for none, and the seconds left, as each second ends
   runs : List (List ℕ) → List ℕ → List ℕ → Case
+  -- a typed list on a fresh bench, with no kit's list before it: the records
+  typed : String → List ℕ → Case
 
 -- A fresh bench to which these commands were given, as bytes.
 abbrev given : List (List ℕ) → List Event
@@ -72,6 +86,7 @@ Claim (hands commands kinds) = told (λ s. s .handed) (benchOf commands) (length
 Claim (runs commands running left) =
     (told (λ s. s .bench .store .running) (benchOf commands) (length running) ≡ running)
     × (told (λ s. s .bench .store .left) (benchOf commands) (length left) ≡ left)
+Claim (typed text records) = typedReport freshBench [] (ascii text) ≡ records
 
 abbrev pub Holds : List Case → Type 0
 Holds [] = Unit {0}
@@ -159,6 +174,8 @@ cases =
     ∷ lasts macros 1 7
     ∷ hands macros ((Kind.TlmFlush ∷ []) ∷ [] ∷ [] ∷ (Kind.ImgPwr 0 ∷ []) ∷ (Kind.TlmFlush ∷ []) ∷ [] ∷ [] ∷ [] ∷ [])
     ∷ runs macros (1 ∷ 1 ∷ 1 ∷ 1 ∷ 1 ∷ 1 ∷ 255 ∷ 255 ∷ []) (6 ∷ 5 ∷ 4 ∷ 3 ∷ 2 ∷ 1 ∷ 0 ∷ 0 ∷ [])
+    -- Q-1: "Empty lines and lines that begin with `#` carry no command but are counted." (No macro is open, so the append on line 4 gets 11.)
+    ∷ typed "# my first list\nimg_region 512 256\n\n+tlm_flush\n" (recordBytes 2 0 0 2 ++ recordBytes 2 11 0 4)
     ∷ []
 
 -- One proof beside the others.
@@ -168,7 +185,8 @@ a also b = (a, b)
 
 pub cases-hold : Holds cases
 unfolding bytesOf readOf sumOf commandBytes judgeCode ofBits toBits frameRule secondOf entriesOf kept expand flatBelow flat seconds writtenOut
-    appliedOf allBelow allOf storeSound benchSound carryOut carryOutBytes secondAt
+    appliedOf allBelow allOf storeSound benchSound carryOut carryOutBytes secondAt linesOf wordsOf sameText digitsIn wholeOf formNamed typedAs lineOf
+    commandsIn numbersIn listBytes spanOf rests taken runRests
 cases-hold =
     (refl, refl, refl)
     also (refl, refl, refl)
@@ -193,4 +211,5 @@ cases-hold =
     also refl
     also refl
     also (refl, refl)
+    also refl
     also tt

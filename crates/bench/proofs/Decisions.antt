@@ -10,7 +10,7 @@ use Rattle.wire.specs.declared.judging.Told.{Told}
 use Rattle.wire.specs.declared.decoding.Reading.{Reading}
 use Rattle.wire.specs.Codes.{firstOf}
 use Rattle.wire.specs.Judge.{toldWith, toldOf, judged, judgeCode, argChecks, firstBadIn, parOf}
-use Rattle.wire.specs.Read.{Answer, answerOf, answerFor, readCode, readOf, readChecks}
+use Rattle.wire.specs.Read.{Answer, answerOf, answerFor, readCode, readOf, readChecks, said}
 use Rattle.wire.proofs.FirstOf.{first-append}
 use Rattle.wire.proofs.Answers.{refusal-code}
 use Rattle.store.specs.declared.checks.Denial.{Denial}
@@ -18,7 +18,6 @@ use Rattle.store.specs.declared.checks.Permit.{Permit}
 use Rattle.store.specs.declared.tally.Tally.{Tally}
 use Rattle.store.specs.Checks.{codeOf, toldPermit}
 use Rattle.store.specs.TallySteps.{tallyChecks, tallyCode}
-use Rattle.bench.specs.Carry.{said}
 use Rattle.bench.specs.Steps.{permittedBy, decidedBy, decidedIn}
 use Rattle.bench.proofs.Outcomes.{judge-coded, read-coded}
 

@@ -1,7 +1,8 @@
 -- The three demands, word for word, and under every clause of them the theorems that carry it. The theorems speak of the meanings that the promises
--- in src/ name: what `carry_out` answers is `carryOut`, `carry_out_bytes` `carryOutBytes`, `second` `secondAt`, `status` `statusAt`, and `run`
--- `runOf` with the room `roomAfter` (specs/Carry, Second, Status, Run). What can happen to a bench is a list of events: commands, seconds and runs
--- (specs/Events). Read the statements here; what they rest on is proved in Rows, Back, Sound, MacroRun and Report, and in the crates below.
+-- in src/ name: what `carry_out` answers is `carryOut`, `carry_out_bytes` `carryOutBytes`, `second` `secondAt`, `status` `statusAt`, `run` `runOf`
+-- with the room `roomAfter`, and `run_typed` `typedOf` with the room `typedRoom` (specs/Carry, Second, Status, Run, Typed). What can happen to a bench
+-- is a list of events: commands, seconds, runs and runs of typed lists (specs/Events). Read the statements here; what they rest on is proved in Rows,
+-- Back, Sound, MacroRun, Report, TypedReport and LineShown, and in the crates below.
 use Prim.Native.Nat.{ℕ, _+_, _*_, _-_, _≤_, _<_}
 use mathlib.Core.Path.{_≡_, refl, sym, _∙_}
 use mathlib.Core.Logic.{_↔_, _≢_}
@@ -11,13 +12,13 @@ use native.Mathlib.Omega.{arith}
 use lib.ListN.{length, getD, take, drop}
 use lib.Dec.{ltb}
 use borrow.Author.Tests.{ne-eqb}
-use Rattle.words.specs.BigEndian.{byteAt, halfAt, hasRoom, written}
+use Rattle.words.specs.BigEndian.{byteAt, halfAt, wordAt, hasRoom, written}
 use Rattle.wire.specs.declared.kinds.Kind.{Kind}
 use Rattle.wire.specs.declared.kinds.Command.{Command}
 use Rattle.wire.specs.declared.decoding.Reading.{Reading}
 use Rattle.wire.specs.Codes.{_when_}
 use Rattle.wire.specs.Judge.{toldWith}
-use Rattle.wire.specs.Read.{lengthOf, answerOf, readChecks, readOf}
+use Rattle.wire.specs.Read.{lengthOf, answerOf, readChecks, readOf, said}
 use Rattle.wire.specs.Write as writing
 use Rattle.wire.proofs.Order.{NoneDue, Order, read-order, write-order}
 use Rattle.wire.proofs.Front.{Bytes}
@@ -35,6 +36,18 @@ use Rattle.report.specs.Record.{recordBytes, putCode}
 use Rattle.report.proofs.Calls as records
 use Rattle.walk.specs.Walk.{rests}
 use Rattle.walk.specs.Shown.{listOf, shownOf}
+use Rattle.text.specs.Split.{linesOf}
+use Rattle.text.specs.Names.{formNamed}
+use Rattle.text.specs.Line.{nameIn, lineChecks, typedAs, lineOf}
+use Rattle.text.specs.Findings.{nothing, outcome}
+use Rattle.text.specs.Assemble as typing
+use Rattle.text.specs.Assemble.{lineNumbers, bytesIn, lineFindings, badLine}
+use Rattle.text.specs.Lister as lister
+use Rattle.text.specs.Shown.{lineShown}
+use Rattle.text.proofs.LineOrder.{InOrder, line-order}
+use Rattle.text.proofs.FirstFinding.{FindsFirst, first-found}
+use Rattle.text.proofs.Calls as texts
+use Rattle.text.proofs.Calls.{textIn, listIn}
 use Rattle.store.specs.declared.roles.Role.{Role}
 use Rattle.store.specs.Roles.{isRun, isStop}
 use Rattle.store.specs.Slots.{isClosed}
@@ -42,20 +55,23 @@ use Rattle.store.specs.WrittenOut.{writtenOut}
 use Rattle.store.proofs.Running.{RunOf, closed-lasts}
 use Rattle.bench.specs.declared.Bench.{Bench}
 use Rattle.bench.specs.Status.{freshBench, statusOf, benchSound, soundCheck, statusAt}
-use Rattle.bench.specs.Carry.{Outcome, effectOf, commandChecks, carryCode, carryOut, said, bytesChecks, taken, carryBytesCode, carryOutBytes}
+use Rattle.bench.specs.Carry.{Outcome, effectOf, commandChecks, carryCode, carryOut, bytesChecks, taken, carryBytesCode, carryOutBytes}
 use Rattle.bench.specs.Second.{secondAt}
-use Rattle.bench.specs.Run.{runChecks, runOf, roomAfter}
-use Rattle.bench.specs.Events.{Event, bytes, second, run, afterOne, after, Reached, secondsIn, takesAny, accepts, acceptsAny}
+use Rattle.bench.specs.Run.{kitPart, runChecks, runOf, roomAfter}
+use Rattle.bench.specs.Typed.{typedFindings, typedOf, typedRoom}
+use Rattle.bench.specs.Events.{Event, bytes, second, run, typed, afterOne, after, Reached, secondsIn, takesAny, accepts, acceptsAny}
 use Rattle.bench.proofs.Rows as rows
 use Rattle.bench.proofs.Back.{command-again, frame-again}
-use Rattle.bench.proofs.InTurn.{leftBy}
+use Rattle.bench.proofs.InTurn.{leftBy, run-left, typed-left}
 use Rattle.bench.proofs.Sound.{GoodBench, good-store, left-good, fresh-sound, event-keeps, after-keeps, reached-sound}
 use Rattle.bench.proofs.Sound.{second-answers, status-answers, status-rules, status-written}
 use Rattle.bench.proofs.MacroRun.{runCommand, run-begins, run-accepted, run-accepted-bytes, begun-sound, run-begins-within}
 use Rattle.bench.proofs.MacroRun.{stays-idle, idle-hands, now-runs, now-hands, next-says, next-idle}
 use Rattle.bench.proofs.Outcomes.{sound-bytes}
-use Rattle.bench.proofs.Report.{Carries, restAt, recordAt, eventsOf, Untouched, record-carries, kit-record, pupil-record}
+use Rattle.bench.proofs.Report.{Carries, restAt, benchAt, recordAt, eventsOf, Untouched, record-carries, kit-record, pupil-record}
 use Rattle.bench.proofs.Report.{kit-verdict, pupil-verdict, run-leaves, run-accepts, run-reaches, refused-leaves, shown-judged}
+use Rattle.bench.proofs.TypedReport as reports
+use Rattle.bench.proofs.LineShown.{line-says}
 
 -- # Demand 1
 --
@@ -68,7 +84,10 @@ use Rattle.bench.proofs.Report.{kit-verdict, pupil-verdict, run-leaves,
 
 -- "Every entry point judges its own input;"
 -- A call that may refuse tries a list of checks on its own input, and `Order` (wire, proofs/Order) says that its code is that of the first check that
--- is due, and 0 exactly when none is. Carrying out tries 27 first, and then the rows of demand 2. Every other call has an answer to every input.
+-- is due, and 0 exactly when none is. A line of a text has an order of its own (`InOrder`: text, proofs/LineOrder). Assembling, listing and a typed run
+-- have findings, which name a line or a command; `FindsFirst` (text, proofs/FirstFinding) says that the answer is what the first finds that finds
+-- something, and likewise which line of a text is the bad one. Carrying out tries 27 first, and then the rows of demand 2. Every other call has an answer
+-- to every input.
 pub record Judges : Type 0 where
   pub read-command : (s : List ℕ) → Order (readChecks s) (readOf s .told .code)
   pub write-command : (c : Command) (room : List ℕ) → Order (writing.writeChecks c room) (writing.wroteAt c room .told .code)
@@ -78,11 +97,16 @@ pub record Judges : Type 0 where
   pub second : (b : Bench) → Order (soundCheck b ∷ []) (secondAt b .told .code)
   pub status : (b : Bench) → Order (soundCheck b ∷ []) (statusAt b .code)
   pub run : (b : Bench) (kit pupil room : List ℕ) → Order (runChecks b kit pupil room) (runOf b kit pupil room .code)
+  pub run-typed : (b : Bench) (kit text room : List ℕ) → FindsFirst (typedFindings b kit text room) (typedOf b kit text room .found)
+  pub line : (flag : Bool) (words : List (List ℕ)) → InOrder (lineChecks (formNamed (nameIn words)) flag words) (typedAs flag words .told .code)
+  pub bad-line : (text : List ℕ) → FindsFirst (lineFindings 1 (linesOf text)) (badLine text)
+  pub assemble : (text room : List ℕ) → FindsFirst (typing.assembleFindings text room) (typing.assembledAs text room .found)
+  pub list-text : (raw room : List ℕ) → FindsFirst (lister.listFindings raw room) (lister.listedAs raw room .found)
   pub carry-out : (b : Bench) → benchSound b ≡ false → (c : Command) → carryOut b c .told .code ≡ 27
   pub carry-out-bytes : (b : Bench) → benchSound b ≡ false → (s : List ℕ) → carryOutBytes b s .told .code ≡ 27
 
 pub demand-1-judges : Judges
-unfolding readOf writing.wroteAt frames.readOf
+unfolding readOf writing.wroteAt frames.readOf typing.assembledAs lister.listedAs
 demand-1-judges =
     record {
       read-command = read-order;
@@ -93,6 +117,11 @@ demand-1-judges =
       second = rows.second-order;
       status = rows.status-order;
       run = rows.run-order;
+      run-typed = rows.typed-order;
+      line = line-order;
+      bad-line = rows.lines-order;
+      assemble = λ text room. first-found (typing.assembleFindings text room);
+      list-text = λ raw room. first-found (lister.listFindings raw room);
       carry-out = rows.command-unsound;
       carry-out-bytes = rows.bytes-unsound;
     }
@@ -115,8 +144,11 @@ demand-1-second b refused = rows.second-refused b refused
 pub demand-1-run : (b : Bench) (kit pupil room : List ℕ) → runOf b kit pupil room .code ≢ 0 → Untouched b kit pupil room
 demand-1-run b kit pupil room refused = refused-leaves b kit pupil room refused
 
+pub demand-1-typed : (b : Bench) (kit text room : List ℕ) → typedOf b kit text room .found .told .code ≢ 0 → reports.Untouched b kit text room
+demand-1-typed b kit text room refused = reports.refused-leaves b kit text room refused
+
 -- "and a refused call writes nothing into lent memory."
--- Beside the run: `write_command`, `write_frame`, and `put_record`, whose room is `written` with the record's bytes, as the rooms of the writers of
+-- Beside the runs: `write_command`, `write_frame`, and `put_record`, whose room is `written` with the record's bytes, as the rooms of the writers of
 -- words and of text are with theirs.
 pub demand-1-write-command : (c : Command) (room : List ℕ) → writing.wroteAt c room .told .code ≢ 0 → writing.roomAfter c room ≡ room
 unfolding writing.wroteAt
@@ -128,6 +160,12 @@ demand-1-write-frame f room refused = frame-calls.refused-leaves f room refused
 pub demand-1-put-record : (sender code par number : ℕ) (room : List ℕ) → putCode (recordBytes sender code par number) room ≢ 0
     → written (recordBytes sender code par number) room ≡ room
 demand-1-put-record sender code par number room refused = records.refused-leaves sender code par number room refused
+
+pub demand-1-assemble : (text room : List ℕ) → typing.assembledAs text room .found .told .code ≢ 0 → typing.roomAfter text room ≡ room
+demand-1-assemble text room refused = texts.refused-assembling text room refused
+
+pub demand-1-list-text : (raw room : List ℕ) → lister.listedAs raw room .found .told .code ≢ 0 → lister.listedRoom raw room ≡ room
+demand-1-list-text raw room refused = texts.refused-listing raw room refused
 
 -- # Demand 2
 --
@@ -177,6 +215,36 @@ demand-2-pupil b good kit pupil room accepted k there =
     rw (pupil-record b kit pupil room accepted k there, pupil-verdict b good kit pupil k)
     (record-carries 2 (carryOutBytes (after b (map bytes (rests kit ++ take k (rests pupil)))) (restAt pupil k) .told) (k + 1))
 
+-- In the room after the run of a typed list the kit's records are as after any run. Record k + 1 of the pupil carries the verdict on command k + 1 of
+-- the list that the text says, and the number of its line, whatever the kit's list holds.
+pub demand-2-typed-kit : (b : Bench) → GoodBench b → (kit text room : List ℕ) → typedOf b kit text room .found .told .code ≡ 0
+    → (k : ℕ) → k < length (rests kit)
+    → Carries (recordAt (typedRoom b kit text room) k) 1 (carryOutBytes (after b (map bytes (take k (rests kit)))) (restAt kit k) .told) (k + 1)
+demand-2-typed-kit b good kit text room accepted k there =
+    rw (reports.kit-record b kit text room accepted k there, kit-verdict b good kit (bytesIn text) k)
+    (record-carries 1 (carryOutBytes (after b (map bytes (take k (rests kit)))) (restAt kit k) .told) (k + 1))
+
+pub demand-2-typed-pupil : (b : Bench) → GoodBench b → (kit text room : List ℕ) → typedOf b kit text room .found .told .code ≡ 0
+    → (k : ℕ) → k < length (rests (bytesIn text))
+    → Carries (recordAt (typedRoom b kit text room) (length (rests kit) + k)) 2
+    (carryOutBytes (after b (map bytes (rests kit ++ take k (rests (bytesIn text))))) (restAt (bytesIn text) k) .told) (getD (lineNumbers text) k 0)
+demand-2-typed-pupil b good kit text room accepted k there =
+    rw (reports.pupil-record b kit text room accepted k there, pupil-verdict b good kit (bytesIn text) k)
+    (record-carries 2 (carryOutBytes (after b (map bytes (rests kit ++ take k (rests (bytesIn text))))) (restAt (bytesIn text) k) .told)
+    (getD (lineNumbers text) k 0))
+
+-- The line shown for that number says that command, and no other.
+pub demand-2-typed-line : (b : Bench) (kit text room : List ℕ) → typedOf b kit text room .found .told .code ≡ 0
+    → (k : ℕ) → k < length (rests (bytesIn text))
+    → lineOf (lineShown text (wordAt (recordAt (typedRoom b kit text room) (length (rests kit) + k)) 4)) .taken ≡ said (restAt (bytesIn text) k) ∷ []
+demand-2-typed-line b kit text room accepted k there =
+    rw (reports.same-run b kit text room accepted .pupil-numbers k there)
+    (line-says text (reports.passed b kit text room accepted .text-short) k there)
+
+-- So the run of a typed list leaves the bench, the counts, the kit's records and the pupil's verdicts of the run of the list that the text says.
+pub demand-2-typed-run : (b : Bench) (kit text room : List ℕ) → typedOf b kit text room .found .told .code ≡ 0 → reports.SameRun b kit text room
+demand-2-typed-run b kit text room accepted = reports.same-run b kit text room accepted
+
 -- So the parameter in byte 2 of every record says of that command what it should beside the code in byte 1.
 abbrev ParameterIn : List ℕ → List ℕ → Type 0
 ParameterIn record-bytes s = Parameter (said s) (toldWith (byteAt record-bytes 1) (byteAt record-bytes 2))
@@ -192,6 +260,19 @@ pub demand-2-parameter-pupil : (b : Bench) → GoodBench b → (kit pupil room :
 demand-2-parameter-pupil b good kit pupil room accepted k there =
     let carries = demand-2-pupil b good kit pupil room accepted k there in
     rw (carries .code, carries .par) (rows.bytes-parameter (after b (map bytes (rests kit ++ take k (rests pupil)))) (restAt pupil k))
+
+pub demand-2-parameter-typed-kit : (b : Bench) → GoodBench b → (kit text room : List ℕ) → typedOf b kit text room .found .told .code ≡ 0
+    → (k : ℕ) → k < length (rests kit) → ParameterIn (recordAt (typedRoom b kit text room) k) (restAt kit k)
+demand-2-parameter-typed-kit b good kit text room accepted k there =
+    let carries = demand-2-typed-kit b good kit text room accepted k there in
+    rw (carries .code, carries .par) (rows.bytes-parameter (after b (map bytes (take k (rests kit)))) (restAt kit k))
+
+-- A typed command passed rows 1 to 10 as its text was judged: its record has 0 or a code from 11 to 19, and no parameter.
+pub demand-2-typed-codes : (b : Bench) (kit text room : List ℕ) → typedOf b kit text room .found .told .code ≡ 0
+    → (k : ℕ) → k < length (rests (bytesIn text))
+    → let bytes = recordAt (typedRoom b kit text room) (length (rests kit) + k) in reports.OfStore (toldWith (byteAt bytes 1) (byteAt bytes 2))
+demand-2-typed-codes b kit text room accepted k there =
+    rw (reports.pupil-record b kit text room accepted k there) (reports.typed-told (benchAt (kitPart b kit .bench) (bytesIn text) k) text k there)
 
 -- The bytes shown for a sender and number are the very bytes that the record judged: alone they get the same verdict and leave the same bench.
 pub shown-are-judged : (kit pupil : List ℕ) → length kit ≤ 4096 → length pupil ≤ 4096 → (b : Bench) → benchSound b ≡ true → (sender k : ℕ)
@@ -223,6 +304,20 @@ demand-2-frame-back f room done = frame-calls.write-then-read f room done
 pub demand-2-frame-again : (s : List ℕ) → Bytes s → (f : Frame) → frames.readOf s ≡ takenAs f → (room : List ℕ) → 32 ≤ length room
     → (frames.writeCode f room ≡ 0) × (frames.roomAfter f room ≡ s ++ drop 32 room)
 demand-2-frame-again s are f read room enough = frame-again s are f read room enough
+
+-- The same of whole lists in text: a raw list that was listed is assembled to the same bytes; a text that was assembled is listed, into a room of twice
+-- those bytes, and that text assembles to them again. (`textIn`, `listIn`: what stands at the front of the room afterwards.)
+pub demand-2-list-back : (raw room room' : List ℕ) → Bytes raw → lister.listedAs raw room .found .told .code ≡ 0 → length raw ≤ length room'
+    → (typing.assembledAs (textIn raw room) room' ≡ outcome nothing (length raw)) × (typing.roomAfter (textIn raw room) room' ≡ raw ++ drop (length raw) room')
+demand-2-list-back raw room room' are done enough = texts.listed-assembled raw room room' are done enough
+
+pub demand-2-text-back : (text room room₁ room₂ : List ℕ) → typing.assembledAs text room .found .told .code ≡ 0
+    → 2 * length (listIn text room) ≤ length room₁ → length (listIn text room) ≤ length room₂
+    → (let raw = listIn text room in
+    (lister.listedAs raw room₁ .found ≡ nothing)
+    × (typing.assembledAs (textIn raw room₁) room₂ ≡ outcome nothing (length raw))
+    × (typing.roomAfter (textIn raw room₁) room₂ ≡ raw ++ drop (length raw) room₂))
+demand-2-text-back text room room₁ room₂ done roomy enough = texts.assembled-again text room room₁ room₂ done roomy enough
 
 -- # Demand 3
 --
@@ -343,8 +438,8 @@ pub demand-3-bytes : (b : Bench) → Reached b → b .store .running ≡ 255 →
     → (s : List ℕ) → readOf s ≡ answerOf (Reading.Taken (runCommand m)) → Started m (writtenOut (b .store) m) (carryOutBytes b s)
 demand-3-bytes b r free m closed s read = rw (run-accepted-bytes b (reached-sound b r) free m closed s read) (started b r free m closed)
 
--- A RUN m that stands in a list of a run, behind the commands `before` and in front of `behind`, starts m just so: what is demanded holds from the
--- run's end on, if no STOP is accepted behind it in the run itself.
+-- A RUN m that stands in a list of a run, raw or typed, behind the commands `before` and in front of `behind`, starts m just so: what is demanded
+-- holds from the run's end on, if no STOP is accepted behind it in the run itself.
 pub demand-3-run : (b : Bench) → Reached b → (kit pupil room : List ℕ) → runOf b kit pupil room .code ≡ 0
     → (before : List (List ℕ)) (s : List ℕ) (behind : List (List ℕ)) → rests kit ++ rests pupil ≡ before ++ (s ∷ behind)
     → let there = leftBy b before in there .store .running ≡ 255 → (m : ℕ) → isClosed (there .store) m ≡ true
@@ -354,8 +449,24 @@ demand-3-run b r kit pupil room carried before s behind stands free m closed rea
     let good = reached-sound b r in
     let there = leftBy b before in
     let lasts = closed-lasts (there .store) (good-store there (left-good b good before)) m closed in
-    let going = run-begins-within b good kit pupil room carried before s behind stands free m closed read none in
-    runs m (writtenOut (there .store) m) (runOf b kit pupil room .bench) (event-keeps b good (run kit pupil room)) going (lasts .most)
+    let left = runOf b kit pupil room .bench in
+    let all = rests kit ++ rests pupil in
+    let going = run-begins-within b good before s behind free m closed read none all stands left (run-left b kit pupil room carried) in
+    runs m (writtenOut (there .store) m) left (event-keeps b good (run kit pupil room)) going (lasts .most)
+
+pub demand-3-typed : (b : Bench) → Reached b → (kit text room : List ℕ) → typedOf b kit text room .found .told .code ≡ 0
+    → (before : List (List ℕ)) (s : List ℕ) (behind : List (List ℕ)) → rests kit ++ rests (bytesIn text) ≡ before ++ (s ∷ behind)
+    → let there = leftBy b before in there .store .running ≡ 255 → (m : ℕ) → isClosed (there .store) m ≡ true
+    → readOf s ≡ answerOf (Reading.Taken (runCommand m)) → takesAny isStop (taken there s .bench) behind ≡ false
+    → Demand3 m (writtenOut (there .store) m) (typedOf b kit text room .bench)
+demand-3-typed b r kit text room carried before s behind stands free m closed read none =
+    let good = reached-sound b r in
+    let there = leftBy b before in
+    let lasts = closed-lasts (there .store) (good-store there (left-good b good before)) m closed in
+    let left = typedOf b kit text room .bench in
+    let all = rests kit ++ rests (bytesIn text) in
+    let going = run-begins-within b good before s behind free m closed read none all stands left (typed-left b kit text room carried) in
+    runs m (writtenOut (there .store) m) left (event-keeps b good (typed kit text room)) going (lasts .most)
 
 -- And of any idle bench that is sound: it stays idle until a RUN is accepted, whatever else happens.
 pub demand-3-idle : (b : Bench) → GoodBench b → b .store .running ≡ 255 → (es : List Event) → acceptsAny isRun b es ≡ false → Idle (after b es)
@@ -363,8 +474,9 @@ demand-3-idle b good free es none = idles (after b es) (after-keeps b good es) (
 
 -- # What the demands speak of: reached states, and runs
 
--- "A state reached from a fresh one is always sound.": a fresh bench is, each event (a command, decoded or from bytes, a second, a run) keeps it, and
--- so every reached bench is. (`GoodBench b`: the test of 27 passes, and the arrays of the store have their lengths, as every program's have.)
+-- "A state reached from a fresh one is always sound.": a fresh bench is, each event (a command, decoded or from bytes, a second, a run, raw or typed)
+-- keeps it, and so every reached bench is. (`GoodBench b`: the test of 27 passes, and the arrays of the store have their lengths, as every
+-- program's have.)
 pub fresh-is-sound : GoodBench freshBench
 fresh-is-sound = fresh-sound
 
@@ -380,6 +492,7 @@ pub record Answers (b : Bench) : Type 0 where
   pub bytes : (s : List ℕ) → carryOutBytes b s .told .code ≢ 27
   pub second : secondAt b .told .code ≡ 0
   pub run : (kit pupil room : List ℕ) → runOf b kit pupil room .code ≢ 27
+  pub run-typed : (kit text room : List ℕ) → typedOf b kit text room .found .told .code ≢ 27
   pub status : statusAt b ≡ record { code = 0; shown = statusOf b ∷ [] }
   pub status-written : (room : List ℕ) → 32 ≤ length room
       → (frames.writeCode (statusOf b) room ≡ 0) × (frames.roomAfter (statusOf b) room ≡ frameBytes (statusOf b) ++ drop 32 room)
@@ -392,6 +505,7 @@ sound-answers b good =
       bytes = λ s e. omega (arith, rows.bytes-most b (good .sound) s);
       second = second-answers b good;
       run = rows.run-not-27 b (good .sound);
+      run-typed = rows.typed-not-27 b (good .sound);
       status = status-answers b good;
       status-written = status-written b good;
       status-read = read-written (statusOf b) (status-rules b good);
@@ -404,6 +518,14 @@ pub run-is-its-commands : (b : Bench) → GoodBench b → (kit pupil room : List
     × ((test : Role → Bool) → accepts test b (run kit pupil room) ≡ acceptsAny test b (eventsOf b kit pupil room))
 run-is-its-commands b good kit pupil room = (run-leaves b good kit pupil room, run-accepts b good kit pupil room)
 
+pub typed-is-its-commands : (b : Bench) → GoodBench b → (kit text room : List ℕ)
+    → (typedOf b kit text room .bench ≡ after b (reports.typedEvents b kit text room))
+    × ((test : Role → Bool) → accepts test b (typed kit text room) ≡ acceptsAny test b (reports.typedEvents b kit text room))
+typed-is-its-commands b good kit text room = (reports.typed-leaves b good kit text room, reports.typed-accepts b good kit text room)
+
 -- What it leaves is reached where it began in a reached state.
 pub run-stays-reached : (b : Bench) → Reached b → (kit pupil room : List ℕ) → Reached (runOf b kit pupil room .bench)
 run-stays-reached b r kit pupil room = run-reaches b r kit pupil room
+
+pub typed-stays-reached : (b : Bench) → Reached b → (kit text room : List ℕ) → Reached (typedOf b kit text room .bench)
+typed-stays-reached b r kit text room = reports.typed-reaches b r kit text room

@@ -1,11 +1,14 @@
 -- Laws of the bench, in two groups: what a reader wants to know (`Demands` is the file to open first; `Cases` has 01's starred examples,
--- `Report` what a moderator asks of the records), and the laws behind those and behind single functions.
+-- `Report`, `TypedReport` and `LineShown` what a moderator asks of the records), and the laws behind those and behind single functions.
 pub mod Demands
 pub mod Cases
 pub mod Report
+pub mod TypedReport
+pub mod LineShown
 pub mod Slips
 pub mod Unique
 pub mod UniqueRun
+pub mod UniqueTyped
 pub mod Rows
 pub mod Camera
 pub mod Sound
@@ -19,4 +22,7 @@ mod Decisions
 mod Shapes
 mod Judging
 mod Listing
+mod RawList
+mod TypedList
+mod TypedRun
 mod TwoLists

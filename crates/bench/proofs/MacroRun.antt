@@ -12,8 +12,9 @@ use Rattle.wire.specs.declared.kinds.Kind.{Kind}
 use Rattle.wire.specs.declared.kinds.Command.{Command}
 use Rattle.wire.specs.declared.decoding.Reading.{Reading}
 use Rattle.wire.specs.Judge.{toldWith, judgeCode}
-use Rattle.wire.specs.Read.{answerOf, readOf}
+use Rattle.wire.specs.Read.{answerOf, readOf, said}
 use Rattle.walk.specs.Walk.{rests}
+use Rattle.text.specs.Assemble.{bytesIn}
 use Rattle.store.specs.declared.roles.Role.{Role}
 use Rattle.store.specs.declared.Store.{Store}
 use Rattle.store.specs.Roles.{isRun, isStop}
@@ -24,14 +25,13 @@ use Rattle.store.specs.Effects.{nextEntry, afterSecond}
 use Rattle.store.proofs.Sound.{closed-small}
 use Rattle.store.proofs.Running.{RunOf, run-starts, run-stays, RunSecond, run-second, applied-idle, second-idle}
 use Rattle.bench.specs.declared.Bench.{Bench}
-use Rattle.bench.specs.Carry.{Outcome, outcomeFor, effectOf, carryCode, carryOut, said, taken, carryBytesCode, carryOutBytes}
+use Rattle.bench.specs.Carry.{Outcome, outcomeFor, effectOf, carryCode, carryOut, taken, carryBytesCode, carryOutBytes}
 use Rattle.bench.specs.Second.{secondAt}
-use Rattle.bench.specs.Run.{runOf}
-use Rattle.bench.specs.Events.{Event, command, bytes, second, run, afterOne, after, secondsIn}
+use Rattle.bench.specs.Events.{Event, command, bytes, second, run, typed, afterOne, after, secondsIn}
 use Rattle.bench.specs.Events.{executes, takes, takesAny, accepts, acceptsAny}
 use Rattle.bench.proofs.Outcomes.{carry-code, read-then, carry-bytes-code, sound-bytes}
 use Rattle.bench.proofs.Back.{command-read}
-use Rattle.bench.proofs.InTurn.{leftBy, left-append, run-left, by-run}
+use Rattle.bench.proofs.InTurn.{leftBy, left-append, by-run, by-typed}
 use Rattle.bench.proofs.Sound.{GoodBench, good-store, Accepted, effect-keeps, Takes, by-command, by-bytes, by-taken, taken-good, left-good}
 use Rattle.bench.proofs.Sound.{second-is, event-keeps, after-keeps}
 
@@ -64,6 +64,11 @@ module _ (test : Role → Bool) (P : Bench → Type 0)
   run-keeps b good holds kit pupil room none =
       by-run P b kit pupil room holds (λ zero. turns-keep b good holds (rests kit ++ rests pupil) (rw zero at none))
 
+  typed-keeps : (b : Bench) → GoodBench b → P b → (kit text room : List ℕ) → accepts test b (typed kit text room) ≡ false
+      → P (afterOne b (typed kit text room))
+  typed-keeps b good holds kit text room none =
+      by-typed P b kit text room holds (λ zero. turns-keep b good holds (rests kit ++ rests (bytesIn text)) (rw zero at none))
+
 -- An accepted command that is no STOP leaves a running macro as it was, and a second takes it one entry on.
 module _ (m : ℕ) (w : List (List Kind)) (k : ℕ) where
   effect-stays : (b : Bench) → GoodBench b → Runs m w k b → (c : Command) → Accepted b c → executes isStop c ≡ false → Runs m w k (effectOf b c)
@@ -93,6 +98,11 @@ runs-on m w k b good runs (run kit pupil room ∷ es) none n e less =
     let parts = neither (accepts isStop b whole) (acceptsAny isStop (afterOne b whole) es) none in
     let next = run-keeps isStop (Runs m w k) (effect-stays m w k) b good runs kit pupil room (parts .0) in
     runs-on m w k (afterOne b whole) (event-keeps b good whole) next es (parts .1) n e less
+runs-on m w k b good runs (typed kit text room ∷ es) none n e less =
+    let whole = typed kit text room in
+    let parts = neither (accepts isStop b whole) (acceptsAny isStop (afterOne b whole) es) none in
+    let next = typed-keeps isStop (Runs m w k) (effect-stays m w k) b good runs kit text room (parts .0) in
+    runs-on m w k (afterOne b whole) (event-keeps b good whole) next es (parts .1) n e less
 
 -- An idle bench stays idle under every command that is accepted and is no RUN, and in every second.
 abbrev Idle : Bench → Type 0
@@ -107,6 +117,7 @@ event-idle b good free (bytes s) none = bytes-keep isRun Idle effect-idle b good
 event-idle b good free second none =
     ap (λ (b : Bench). b .store .running) (second-is b good) ∙ ap (λ (s : Store). s .running) (second-idle (b .store) free .1) ∙ free
 event-idle b good free (run kit pupil room) none = run-keeps isRun Idle effect-idle b good free kit pupil room none
+event-idle b good free (typed kit text room) none = typed-keeps isRun Idle effect-idle b good free kit text room none
 
 pub stays-idle : (b : Bench) → GoodBench b → Idle b → (es : List Event) → acceptsAny isRun b es ≡ false → Idle (after b es)
 stays-idle b good free [] none = free
@@ -165,23 +176,23 @@ module _ (b : Bench) (good : GoodBench b) (free : Idle b) (m : ℕ) (closed : is
   pub begun-sound : GoodBench (effectOf b (runCommand m))
   begun-sound = effect-keeps b good (runCommand m) (record { judge = run-judged; permit = run-permitted })
 
--- The same where RUN m stands in a list of a run: after the commands that stand before it, and with no STOP accepted behind it.
-module _ (b : Bench) (good : GoodBench b) (kit pupil room : List ℕ) (carried : runOf b kit pupil room .code ≡ 0)
-    (before : List (List ℕ)) (s : List ℕ) (behind : List (List ℕ)) (stands : rests kit ++ rests pupil ≡ before ++ (s ∷ behind)) where
+-- The same where RUN m stands among the commands of a run: after those that stand before it, and with no STOP accepted behind it.
+module _ (b : Bench) (good : GoodBench b) (before : List (List ℕ)) (s : List ℕ) (behind : List (List ℕ)) where
   abbrev there : Bench
   there = leftBy b before
 
   pub run-begins-within : (free : Idle there) (m : ℕ) (closed : isClosed (there .store) m ≡ true) → readOf s ≡ answerOf (Reading.Taken (runCommand m))
-      → takesAny isStop (taken there s .bench) behind ≡ false → Runs m (writtenOut (there .store) m) 0 (runOf b kit pupil room .bench)
-  run-begins-within free m closed read none =
+      → takesAny isStop (taken there s .bench) behind ≡ false
+      → (rs : List (List ℕ)) → rs ≡ before ++ (s ∷ behind) → (left : Bench) → left ≡ leftBy b rs → Runs m (writtenOut (there .store) m) 0 left
+  run-begins-within free m closed read none rs stands left is =
       let w = writtenOut (there .store) m in
       let sound = left-good b good before in
       let start = taken there s .bench in
       let starts = sound-bytes there s (sound .sound) ∙ run-accepted-bytes there sound free m closed s read in
       let first : Runs m w 0 start = rw starts (run-begins there sound free m closed) in
       let last = turns-keep isStop (Runs m w 0) (effect-stays m w 0) start (taken-good there sound s) first behind none in
-      let all : leftBy b (rests kit ++ rests pupil) ≡ leftBy start behind = ap (leftBy b) stands ∙ sym (left-append b before (s ∷ behind)) in
-      subst (Runs m w 0) (sym (run-left b kit pupil room carried ∙ all)) last
+      let all : leftBy b rs ≡ leftBy start behind = ap (leftBy b) stands ∙ sym (left-append b before (s ∷ behind)) in
+      subst (Runs m w 0) (sym (is ∙ all)) last
 
 -- A macro that was started, and events up to second k with no STOP accepted: what that second hands over, and what it leaves.
 module _ (m : ℕ) (w : List (List Kind)) (start : Bench) (good : GoodBench start) (runs : Runs m w 0 start)

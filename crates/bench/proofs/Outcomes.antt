@@ -11,13 +11,13 @@ use Rattle.wire.specs.declared.judging.Told.{Told}
 use Rattle.wire.specs.Codes.{firstOf}
 use Rattle.wire.specs.Table.{ruleOf}
 use Rattle.wire.specs.Judge.{toldWith, judgeCode, argChecks}
-use Rattle.wire.specs.Read.{readCode, readChecks, decodeChecks, opcodeOf, flagOf, lengthOf, thirdWord}
+use Rattle.wire.specs.Read.{readCode, readChecks, decodeChecks, opcodeOf, flagOf, lengthOf, thirdWord, said}
 use Rattle.wire.proofs.FirstOf.{Coded, first-append}
 use Rattle.words.specs.BigEndian.{wordAt}
 use Rattle.store.specs.Checks.{permitCode, storeChecks}
 use Rattle.bench.specs.declared.Bench.{Bench}
 use Rattle.bench.specs.Status.{benchSound}
-use Rattle.bench.specs.Carry.{Outcome, outcomeFor, carryCode, carryOut, said, bytesChecks, taken, carryBytesCode, carryOutBytes}
+use Rattle.bench.specs.Carry.{Outcome, outcomeFor, carryCode, carryOut, bytesChecks, taken, carryBytesCode, carryOutBytes}
 
 -- What a refusal leaves: its code and parameter, and the bench as it was.
 abbrev pub left : Told → Bench → Outcome

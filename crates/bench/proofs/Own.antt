@@ -9,11 +9,11 @@ use borrow.Author.Tests.{eqb-true}
 use Rattle.wire.specs.declared.kinds.Command.{Command}
 use Rattle.wire.specs.declared.decoding.Reading.{Reading}
 use Rattle.wire.specs.Codes.{firstOf}
-use Rattle.wire.specs.Read.{Answer, answerOf, answerFor, readCode, readOf}
+use Rattle.wire.specs.Read.{Answer, answerOf, answerFor, readCode, readOf, said}
 use Rattle.walk.proofs.Shows.{first, own-read}
 use Rattle.store.specs.Checks.{permitCode}
 use Rattle.bench.specs.declared.Bench.{Bench}
-use Rattle.bench.specs.Carry.{Outcome, outcomeFor, said, bytesChecks, taken}
+use Rattle.bench.specs.Carry.{Outcome, outcomeFor, bytesChecks, taken}
 use Rattle.bench.proofs.Outcomes.{left, read-then}
 
 -- What rows 11 to 19 say of a command that was read.

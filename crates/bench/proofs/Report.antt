@@ -11,9 +11,10 @@ use lib.Seq.{drop-drop, drop-append-add, drop-at}
 use lib.Dec.{eqb, ltb}
 use borrow.Author.Tests.{ltb-false, ne-eqb, not-false}
 use Rattle.words.proofs.Tests.{neither}
-use Rattle.words.specs.BigEndian.{wordAt, byteAt}
+use Rattle.words.specs.BigEndian.{wordAt, byteAt, written}
 use Rattle.words.proofs.Laws.{with-room}
 use Rattle.wire.specs.declared.judging.Told.{Told}
+use Rattle.wire.specs.Read.{said}
 use Rattle.wire.proofs.Order.{due-none}
 use Rattle.walk.specs.Walk.{rests}
 use Rattle.walk.specs.Shown.{listOf, shownOf}
@@ -23,11 +24,12 @@ use Rattle.report.specs.Record.{recordBytes}
 use Rattle.store.specs.declared.roles.Role.{Role}
 use Rattle.bench.specs.declared.Bench.{Bench}
 use Rattle.bench.specs.Status.{freshBench, benchSound}
-use Rattle.bench.specs.Carry.{Outcome, said, taken, carryOutBytes}
+use Rattle.bench.specs.Carry.{Outcome, taken, carryOutBytes}
 use Rattle.bench.specs.Events.{Event, bytes, run, after, Reached, takes, takesAny, accepts, acceptsAny}
-use Rattle.bench.specs.Run.{runRests, runList, kitPart, pupilPart, runChecks, runCode, runOf, reportOf, roomAfter}
+use Rattle.bench.specs.Run.{ownNumbers, runRests, ownList, kitPart, pupilWith, pupilPart, reportWith, reportOf}
+use Rattle.bench.specs.Run.{runChecks, runCode, runOf, roomAfter}
 use Rattle.bench.proofs.Outcomes.{sound-bytes}
-use Rattle.bench.proofs.InTurn.{leftBy, kit-then, both-left}
+use Rattle.bench.proofs.InTurn.{leftBy, own-even, own-number, kit-then, both-left}
 use Rattle.bench.proofs.Sound.{GoodBench, taken-good, left-good}
 use Rattle.bench.proofs.Listing.{records-long, eight-within}
 use Rattle.bench.proofs.MacroRun.{after-append}
@@ -52,47 +54,94 @@ abbrev pub recordAt : List ℕ → ℕ → List ℕ
 recordAt report k = take 8 (drop (8 * k) report)
 
 -- A list's records are 8 bytes to each command.
-pub list-long : (b : Bench) (sender : ℕ) (s : List ℕ) → length (runList b sender s .records) ≡ 8 * length (rests s)
-list-long b sender s = records-long b sender 1 (rests s)
+pub list-long : (b : Bench) (sender : ℕ) (s : List ℕ) → length (ownList b sender s .records) ≡ 8 * length (rests s)
+list-long b sender s = records-long b sender (ownNumbers s) (rests s) (own-even s)
 
--- So are the records of both lists; they take at most 8,192 bytes where no list is longer than 4,096.
-pub report-long : (b : Bench) (kit pupil : List ℕ) → length (reportOf b kit pupil) ≡ 8 * (length (rests kit) + length (rests pupil))
-report-long b kit pupil =
-    length-append (kitPart b kit .records) (pupilPart b kit pupil .records)
-    ∙ omega (arith, list-long b 1 kit, list-long (kitPart b kit .bench) 2 pupil)
-
-pub report-fits : (b : Bench) (kit pupil : List ℕ) → length kit ≤ 4096 → length pupil ≤ 4096 → length (reportOf b kit pupil) ≤ 8192
-report-fits b kit pupil kit-short pupil-short = omega (arith, report-long b kit pupil, records-fit kit pupil kit-short pupil-short)
-
--- The record at a place of a list's records, whatever its first number.
-rests-record : (b : Bench) (sender number : ℕ) (rs : List (List ℕ)) (k : ℕ) → k < length rs
-    → recordAt (runRests b sender number rs .records) k ≡ recordOf sender (taken (leftBy b (take k rs)) (getD rs k []) .told) (number + k)
+-- The record at a place of a list's records, whatever its numbers: that sender, the verdict on the command there, and the number there.
+numbered-record : (b : Bench) (sender : ℕ) (numbers : List ℕ) (rs : List (List ℕ)) → length numbers ≡ length rs → (k : ℕ) → k < length rs
+    → recordAt (runRests b sender numbers rs .records) k ≡ recordOf sender (taken (leftBy b (take k rs)) (getD rs k []) .told) (getD numbers k 0)
 unfolding runRests
-rests-record b sender number [] k there = absurd (omega arith)
-rests-record b sender number (r ∷ rs) zero there = ap (recordOf sender (taken b r .told)) next
-  where
-    next : number ≡ number + 0
-    next = omega arith
-rests-record b sender number (r ∷ rs) (suc k) there =
-    let l = runRests b sender number (r ∷ rs) .records in
+numbered-record b sender [] [] even k there = absurd (omega arith)
+numbered-record b sender [] (r ∷ rs) even k there = absurd (omega arith)
+numbered-record b sender (number ∷ numbers) [] even k there = absurd (omega arith)
+numbered-record b sender (number ∷ numbers) (r ∷ rs) even zero there = refl
+numbered-record b sender (number ∷ numbers) (r ∷ rs) even (suc k) there =
+    let l = runRests b sender (number ∷ numbers) (r ∷ rs) .records in
     ap (λ n. take 8 (drop n l)) eight
     ∙ ap (take 8) (sym (drop-drop (8 * k) 8 l))
-    ∙ rests-record (taken b r .bench) sender (number + 1) rs k (omega arith)
-    ∙ ap (recordOf sender (taken (leftBy (taken b r .bench) (take k rs)) (getD rs k []) .told)) next
+    ∙ numbered-record (taken b r .bench) sender numbers rs (omega arith) k (omega arith)
   where
     eight : 8 * suc k ≡ 8 + 8 * k
     eight = omega arith
 
-    next : number + 1 + k ≡ number + suc k
-    next = omega arith
-
 -- Record number k + 1 of a sender's list, the one at place k: that sender, the verdict on the list's command number k + 1, and the number k + 1.
 pub list-record : (b : Bench) (sender : ℕ) (s : List ℕ) (k : ℕ) → k < length (rests s)
-    → recordAt (runList b sender s .records) k ≡ recordOf sender (verdictAt b s k) (k + 1)
-list-record b sender s k there = rests-record b sender 1 (rests s) k there ∙ ap (recordOf sender (verdictAt b s k)) next
-  where
-    next : 1 + k ≡ k + 1
-    next = omega arith
+    → recordAt (ownList b sender s .records) k ≡ recordOf sender (verdictAt b s k) (k + 1)
+list-record b sender s k there =
+    numbered-record b sender (ownNumbers s) (rests s) (own-even s) k there ∙ ap (recordOf sender (verdictAt b s k)) (own-number s k there)
+
+-- The records of both lists, with any numbers of the pupil's.
+module _ (b : Bench) (kit numbers pupil : List ℕ) (even : length numbers ≡ length (rests pupil)) where
+  abbrev first : List ℕ
+  first = kitPart b kit .records
+
+  abbrev second : List ℕ
+  second = pupilWith b kit numbers pupil .records
+
+  second-long : length second ≡ 8 * length (rests pupil)
+  second-long = records-long (kitPart b kit .bench) 2 numbers (rests pupil) even
+
+  -- They take 8 bytes to each command, at most 8,192 where no list is longer than 4,096.
+  pub both-long : length (reportWith b kit numbers pupil) ≡ 8 * (length (rests kit) + length (rests pupil))
+  both-long = length-append first second ∙ omega (arith, list-long b 1 kit, second-long)
+
+  pub both-fit : length kit ≤ 4096 → length pupil ≤ 4096 → length (reportWith b kit numbers pupil) ≤ 8192
+  both-fit kit-short pupil-short = omega (arith, both-long, records-fit kit pupil kit-short pupil-short)
+
+  module _ (room : List ℕ) (fits : length (reportWith b kit numbers pupil) ≤ length room) where
+    abbrev left : List ℕ
+    left = written (reportWith b kit numbers pupil) room
+
+    abbrev stays : List ℕ
+    stays = drop (length (reportWith b kit numbers pupil)) room
+
+    filled : left ≡ reportWith b kit numbers pupil ++ stays
+    filled = with-room (reportWith b kit numbers pupil) room fits
+
+    -- In a room the kit's record k stands at place k, with its number in the kit's own list,
+    pub kit-placed : (k : ℕ) → k < length (rests kit) → recordAt left k ≡ recordOf 1 (verdictAt b kit k) (k + 1)
+    kit-placed k there =
+        ap (λ l. recordAt l k) (filled ∙ append-assoc first second stays)
+        ∙ eight-within first (second ++ stays) (8 * k) (omega (arith, list-long b 1 kit))
+        ∙ list-record b 1 kit k there
+
+    -- the pupil's stands k places behind the kit's records, with the number that it was given,
+    pub pupil-placed : (k : ℕ) → k < length (rests pupil)
+        → recordAt left (length (rests kit) + k) ≡ recordOf 2 (verdictAt (kitPart b kit .bench) pupil k) (getD numbers k 0)
+    pupil-placed k there =
+        ap (λ l. recordAt l (length (rests kit) + k)) (filled ∙ append-assoc first second stays)
+        ∙ ap (λ n. take 8 (drop n (first ++ (second ++ stays)))) place
+        ∙ ap (take 8) (drop-append-add first (second ++ stays) (8 * k))
+        ∙ eight-within second stays (8 * k) (omega (arith, second-long))
+        ∙ numbered-record (kitPart b kit .bench) 2 numbers (rests pupil) even k there
+      where
+        place : 8 * (length (rests kit) + k) ≡ length first + 8 * k
+        place = omega (arith, list-long b 1 kit)
+
+    -- and what lies behind them stays.
+    pub rest-placed : let end = 8 * (length (rests kit) + length (rests pupil)) in drop end left ≡ drop end room
+    rest-placed =
+        let end = 8 * (length (rests kit) + length (rests pupil)) in
+        ap (drop end) filled
+        ∙ drop-at (reportWith b kit numbers pupil) stays end both-long
+        ∙ ap (λ n. drop n room) both-long
+
+-- So of the records of two raw lists.
+pub report-long : (b : Bench) (kit pupil : List ℕ) → length (reportOf b kit pupil) ≡ 8 * (length (rests kit) + length (rests pupil))
+report-long b kit pupil = both-long b kit (ownNumbers pupil) pupil (own-even pupil)
+
+pub report-fits : (b : Bench) (kit pupil : List ℕ) → length kit ≤ 4096 → length pupil ≤ 4096 → length (reportOf b kit pupil) ≤ 8192
+report-fits b kit pupil kit-short pupil-short = both-fit b kit (ownNumbers pupil) pupil (own-even pupil) kit-short pupil-short
 
 -- The 8 bytes of such a record: the sender, the code, the parameter, 0, and the number in 32 bits.
 pub record Carries (bytes : List ℕ) (from : ℕ) (verdict : Told) (n : ℕ) : Type 0 where
@@ -141,49 +190,33 @@ module _ (b : Bench) (kit pupil room : List ℕ) (accepted : runOf b kit pupil r
   unfolding runOf
   bench-after = rw accepted
 
-  abbrev first : List ℕ
-  first = kitPart b kit .records
-
-  abbrev second : List ℕ
-  second = pupilPart b kit pupil .records
-
-  abbrev stays : List ℕ
-  stays = drop (length (reportOf b kit pupil)) room
-
-  filled : roomAfter b kit pupil room ≡ reportOf b kit pupil ++ stays
+  room-is : roomAfter b kit pupil room ≡ written (reportOf b kit pupil) room
   unfolding roomAfter runOf
-  filled =
+  room-is = rw accepted
+
+  fits : length (reportOf b kit pupil) ≤ length room
+  fits =
       let p = passed b kit pupil room accepted in
-      rw accepted (with-room (reportOf b kit pupil) room (omega (arith, p, report-fits b kit pupil (p .kit-short) (p .pupil-short))))
+      omega (arith, p, report-fits b kit pupil (p .kit-short) (p .pupil-short))
 
   -- The kit's record number k + 1 stands at place k of the room: sender 1, the verdict on the kit's command, its number in the kit's list.
   pub kit-record : (k : ℕ) → k < length (rests kit) → recordAt (roomAfter b kit pupil room) k ≡ recordOf 1 (verdictAt b kit k) (k + 1)
-  kit-record k there =
-      ap (λ l. recordAt l k) (filled ∙ append-assoc first second stays)
-      ∙ eight-within first (second ++ stays) (8 * k) (omega (arith, list-long b 1 kit))
-      ∙ list-record b 1 kit k there
+  kit-record k there = ap (λ l. recordAt l k) room-is ∙ kit-placed b kit (ownNumbers pupil) pupil (own-even pupil) room fits k there
 
   -- The pupil's record number k + 1 stands k places behind the kit's records: sender 2, the verdict on the pupil's command, its number in the
   -- pupil's own list.
   pub pupil-record : (k : ℕ) → k < length (rests pupil)
       → recordAt (roomAfter b kit pupil room) (length (rests kit) + k) ≡ recordOf 2 (verdictAt (kitPart b kit .bench) pupil k) (k + 1)
   pupil-record k there =
-      ap (λ l. recordAt l (length (rests kit) + k)) (filled ∙ append-assoc first second stays)
-      ∙ ap (λ n. take 8 (drop n (first ++ (second ++ stays)))) place
-      ∙ ap (take 8) (drop-append-add first (second ++ stays) (8 * k))
-      ∙ eight-within second stays (8 * k) (omega (arith, list-long (kitPart b kit .bench) 2 pupil))
-      ∙ list-record (kitPart b kit .bench) 2 pupil k there
-    where
-      place : 8 * (length (rests kit) + k) ≡ length first + 8 * k
-      place = omega (arith, list-long b 1 kit)
+      ap (λ l. recordAt l (length (rests kit) + k)) room-is
+      ∙ pupil-placed b kit (ownNumbers pupil) pupil (own-even pupil) room fits k there
+      ∙ ap (recordOf 2 (verdictAt (kitPart b kit .bench) pupil k)) (own-number pupil k there)
 
   -- "Bytes after the last record stay."
   pub rest-stays : let end = 8 * (length (rests kit) + length (rests pupil)) in drop end (roomAfter b kit pupil room) ≡ drop end room
   rest-stays =
-      let end = 8 * (length (rests kit) + length (rests pupil)) in
-      ap (drop end) filled
-      ∙ drop-at (reportOf b kit pupil) stays end (report-long b kit pupil)
-      ∙ ap (λ n. drop n room) (report-long b kit pupil)
+      ap (drop (8 * (length (rests kit) + length (rests pupil)))) room-is
+      ∙ rest-placed b kit (ownNumbers pupil) pupil (own-even pupil) room fits
 
 -- A run told command by command: the kit's and then the pupil's, each an event of its own from its bytes; none where the run is refused.
 abbrev pub commandsOf : List ℕ → List ℕ → List Event
@@ -221,26 +254,26 @@ module _ (b : Bench) (good : GoodBench b) (kit pupil : List ℕ) where
       ap (λ c. taken c (restAt pupil k) .told) (kit-then b kit (take k (rests pupil)))
       ∙ told-after (rests kit ++ take k (rests pupil)) (restAt pupil k)
 
-  -- Two lists leave exactly the state of carrying out their commands one after another.
-  pub lists-leave : pupilPart b kit pupil .bench ≡ after b (commandsOf kit pupil)
-  lists-leave = both-left b kit pupil ∙ left-after b good (rests kit ++ rests pupil)
+  -- Two lists leave exactly the state of carrying out their commands one after another, and accept what those accept, carried out or not, and
+  -- whatever the numbers of the pupil's records.
+  pub lists-leave : (numbers : List ℕ) → length numbers ≡ length (rests pupil) → (carried : Bool)
+      → cond carried (pupilWith b kit numbers pupil .bench) b ≡ after b (cond carried (commandsOf kit pupil) [])
+  lists-leave numbers even true = both-left b kit numbers pupil even ∙ left-after b good (rests kit ++ rests pupil)
+  lists-leave numbers even false = refl
+
+  pub lists-accept : (test : Role → Bool) (carried : Bool)
+      → (carried && takesAny test b (rests kit ++ rests pupil)) ≡ acceptsAny test b (cond carried (commandsOf kit pupil) [])
+  lists-accept test true = takes-after test b good (rests kit ++ rests pupil)
+  lists-accept test false = refl
 
   -- So a run is no more than its commands, refused or not: it leaves what they leave, and accepts what they accept.
   pub run-leaves : (room : List ℕ) → runOf b kit pupil room .bench ≡ after b (eventsOf b kit pupil room)
   unfolding runOf
-  run-leaves room = go (eqb (runCode b kit pupil room) 0)
-    where
-      go : (carried : Bool) → cond carried (pupilPart b kit pupil .bench) b ≡ after b (cond carried (commandsOf kit pupil) [])
-      go true = lists-leave
-      go false = refl
+  run-leaves room = lists-leave (ownNumbers pupil) (own-even pupil) (eqb (runCode b kit pupil room) 0)
 
   pub run-accepts : (room : List ℕ) (test : Role → Bool) → accepts test b (run kit pupil room) ≡ acceptsAny test b (eventsOf b kit pupil room)
   unfolding runOf
-  run-accepts room test = go (eqb (runCode b kit pupil room) 0)
-    where
-      go : (carried : Bool) → (carried && takesAny test b (rests kit ++ rests pupil)) ≡ acceptsAny test b (cond carried (commandsOf kit pupil) [])
-      go true = takes-after test b good (rests kit ++ rests pupil)
-      go false = refl
+  run-accepts room test = lists-accept test (eqb (runCode b kit pupil room) 0)
 
 -- From a state that can be reached a run leads to one that can be reached.
 pub run-reaches : (b : Bench) → Reached b → (kit pupil room : List ℕ) → Reached (runOf b kit pupil room .bench)

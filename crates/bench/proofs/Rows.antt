@@ -1,13 +1,14 @@
 -- The rows of 01's codes as each call tries them. Carrying out tries, on a sound bench, rows 8 to 19 or, from bytes, 1 to 19, whose codes rise; on
 -- any other bench row 27 is the first. The other calls of a bench follow, and the writer of its records.
-use Prim.Native.Nat.{ℕ, _≤_}
+use Prim.Native.Nat.{ℕ, suc, _≤_}
 use mathlib.Core.Path.{_≡_, refl, sym, ap, subst}
 use mathlib.Core.Logic.{_↔_, _≢_}
 use mathlib.Core.List.{List, [], _∷_, _++_}
-use mathlib.Core.Bool.{Bool, true, false, cond, not, _&&_}
+use mathlib.Core.Bool.{Bool, true, false, cond, not, _&&_, _||_}
 use native.Mathlib.Omega.{arith}
-use lib.Dec.{leb}
-use borrow.Author.Tests.{leb-true}
+use lib.ListN.{length}
+use lib.Dec.{eqb, leb, ltb}
+use borrow.Author.Tests.{leb-true, eqb-false, not-true}
 use Rattle.words.proofs.Tests.{both}
 use Rattle.words.specs.BigEndian.{wordAt, hasRoom}
 use Rattle.wire.specs.declared.table.Found.{Found}
@@ -15,16 +16,25 @@ use Rattle.wire.specs.declared.kinds.Command.{Command}
 use Rattle.wire.specs.Codes.{Check, _when_, firstOf}
 use Rattle.wire.specs.Table.{ruleOf}
 use Rattle.wire.specs.Judge.{toldWith, argChecks}
-use Rattle.wire.specs.Read.{readChecks, decodeChecks, opcodeOf, flagOf, lengthOf, thirdWord}
+use Rattle.wire.specs.Read.{readChecks, decodeChecks, opcodeOf, flagOf, lengthOf, thirdWord, said}
 use Rattle.wire.proofs.Order.{NoneDue, Order, order, rising}
 use Rattle.wire.proofs.Parameters.{Parameter, RangeRow, parameter, range-args, range-read, range-none, range-append}
 use Rattle.report.specs.Record.{putCode}
+use Rattle.text.specs.declared.names.Named.{Named}
+use Rattle.text.specs.declared.findings.Finding.{Finding}
+use Rattle.text.specs.Split.{linesOf, wordsOf}
+use Rattle.text.specs.Names.{formNamed}
+use Rattle.text.specs.Line.{isBlank, flagIn, bodyIn, nameIn, lineChecks, typedAs, lineOf}
+use Rattle.text.specs.Findings.{finding, nothing, whole, firstFound}
+use Rattle.text.specs.Assemble.{bytesIn, lineFindings, badLine}
 use Rattle.store.specs.Checks.{storeChecks}
 use Rattle.bench.specs.declared.Bench.{Bench}
 use Rattle.bench.specs.Status.{benchSound, soundCheck, statusAt}
-use Rattle.bench.specs.Carry.{Outcome, effectOf, outcomeFor, commandChecks, carryChecks, carryOut, said, bytesChecks, carryBytesChecks, carryOutBytes}
+use Rattle.bench.specs.Carry.{Outcome, effectOf, outcomeFor, commandChecks, carryChecks, carryOut, bytesChecks, carryBytesChecks, carryOutBytes}
 use Rattle.bench.specs.Second.{secondAt}
 use Rattle.bench.specs.Run.{runChecks, runCode, runOf}
+use Rattle.bench.specs.Typed.{typedFindings, typedFound, typedOf}
+use Rattle.text.proofs.FirstFinding.{FindsFirst, first-found}
 use Rattle.bench.proofs.Outcomes.{carry-bytes-code, unsound, unsound-bytes}
 
 -- What an accepted command is answered: code 0, and the bench after its effect.
@@ -124,6 +134,78 @@ run-not-27 b sound kit pupil room e =
     let due : not (benchSound b) ≡ true = run-order b kit pupil room .placed 2 (omega arith) .0 e .due in
     let never : _≡_ {A = Bool} false true = rw sound at due in
     absurd (let z : _≡_ {A = ℕ} 0 1 = cc in omega arith)
+
+-- What a typed run finds is what the first of its findings finds; and of its lines the first bad one speaks.
+pub typed-order : (b : Bench) (kit text room : List ℕ) → FindsFirst (typedFindings b kit text room) (typedOf b kit text room .found)
+unfolding typedOf typedFound
+typed-order b kit text room = first-found (typedFindings b kit text room)
+
+pub lines-order : (text : List ℕ) → FindsFirst (lineFindings 1 (linesOf text)) (badLine text)
+lines-order text = first-found (lineFindings 1 (linesOf text))
+
+-- On a sound bench it does not find 27: no line has that code.
+abbrev none27 : List Check → Bool
+none27 [] = true
+none27 (c ∷ cs) = not (eqb (c .code) 27) && none27 cs
+
+first-not-27 : (cs : List Check) → none27 cs ≡ true → firstOf cs ≢ 27
+first-not-27 [] h e = absurd (omega arith)
+first-not-27 (c ∷ cs) h e =
+    let parts = both (not (eqb (c .code) 27)) (none27 cs) h in
+    go (c .due) (eqb-false (c .code) 27 (not-true (eqb (c .code) 27) (parts .0))) (first-not-27 cs (parts .1)) e
+  where
+    go : (t : Bool) → c .code ≢ 27 → firstOf cs ≢ 27 → cond t (c .code) (firstOf cs) ≢ 27
+    go true own rest = own
+    go false own rest = rest
+
+line-not-27 : (l : List ℕ) → lineOf l .told .code ≢ 27
+unfolding lineOf typedAs
+line-not-27 l = go (isBlank l) (words (formNamed (nameIn (wordsOf (bodyIn l)))))
+  where
+    words : (named : Named) → firstOf (lineChecks named (flagIn l) (wordsOf (bodyIn l))) ≢ 27
+    words (Named.Known form) = first-not-27 (lineChecks (Named.Known form) (flagIn l) (wordsOf (bodyIn l))) refl
+    words Named.Unknown = first-not-27 (lineChecks Named.Unknown (flagIn l) (wordsOf (bodyIn l))) refl
+
+    go : (t : Bool) → typedAs (flagIn l) (wordsOf (bodyIn l)) .told .code ≢ 27
+        → cond t (record { told = toldWith 0 0; taken = [] }) (typedAs (flagIn l) (wordsOf (bodyIn l))) .told .code ≢ 27
+    go true other e = absurd (omega arith)
+    go false other e = other e
+
+lines-not-27 : (number : ℕ) (ls : List (List ℕ)) → firstFound (lineFindings number ls) .told .code ≢ 27
+unfolding firstFound lineFindings
+lines-not-27 number [] e = absurd (omega arith)
+lines-not-27 number (l ∷ ls) e = go (eqb (lineOf l .told .code) 0) (lines-not-27 (suc number) ls) e
+  where
+    own : Finding
+    own = finding (lineOf l .told) number
+
+    go : (t : Bool) → firstFound (lineFindings (suc number) ls) .told .code ≢ 27
+        → cond t (firstFound (lineFindings (suc number) ls)) own .told .code ≢ 27
+    go true rest = rest
+    go false rest = line-not-27 l
+
+pub typed-not-27 : (b : Bench) → benchSound b ≡ true → (kit text room : List ℕ) → typedOf b kit text room .found .told .code ≢ 27
+unfolding typedOf typedFound firstFound
+typed-not-27 b sound kit text room e =
+    let long = ltb 32768 (length text) || ltb 4096 (length kit) in
+    go long (ltb 4096 (length (bytesIn text))) (ltb (length room) 8192) (eqb (badLine text .told .code) 0) (rw sound at e)
+  where
+    last : Bool → Bool → List Finding
+    last list small = whole (20 when list) ∷ whole (21 when small) ∷ nothing ∷ []
+
+    rest : (list small : Bool) → firstFound (last list small) .told .code ≢ 27
+    rest true small e = absurd (omega arith)
+    rest false true e = absurd (omega arith)
+    rest false false e = absurd (omega arith)
+
+    behind : Bool → Bool → Bool → Finding
+    behind list small good = cond good (firstFound (last list small)) (badLine text)
+
+    go : (long list small good : Bool)
+        → cond (eqb (whole (20 when long) .told .code) 0) (behind list small good) (whole (20 when long)) .told .code ≢ 27
+    go true list small good e = absurd (omega arith)
+    go false list small true e = rest list small e
+    go false list small false e = lines-not-27 1 (linesOf text) e
 
 -- The parameter beside the code of carrying out: no row but 8 asks for an argument's range.
 store-ranges : (b : Bench) (c : Command) → RangeRow c (storeChecks (b .store) c)

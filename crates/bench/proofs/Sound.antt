@@ -13,7 +13,7 @@ use Rattle.words.proofs.Tests.{both}
 use Rattle.wire.specs.declared.kinds.Command.{Command}
 use Rattle.wire.specs.Codes.{firstOf}
 use Rattle.wire.specs.Judge.{judgeCode}
-use Rattle.wire.specs.Read.{readCode}
+use Rattle.wire.specs.Read.{readCode, said}
 use Rattle.wire.proofs.RoundTrip.{read-allowed}
 use Rattle.frame.specs.Rules.{frameRule}
 use Rattle.frame.specs.Bytes.{frameBytes}
@@ -22,6 +22,7 @@ use Rattle.frame.proofs.Laws.{Ruled, ruled, obeyed}
 use Rattle.camera.specs.Series.{nextHolds}
 use Rattle.camera.specs.Camera.{cameraSecond}
 use Rattle.walk.specs.Walk.{rests}
+use Rattle.text.specs.Assemble.{bytesIn}
 use Rattle.store.specs.Checks.{permitCode}
 use Rattle.store.specs.Effects.{nextEntry}
 use Rattle.store.specs.Sound.{storeSound}
@@ -30,11 +31,11 @@ use Rattle.store.proofs.Handed.{handed-plainly}
 use Rattle.store.proofs.ClosedMarks.{marked-is}
 use Rattle.bench.specs.declared.Bench.{Bench}
 use Rattle.bench.specs.Status.{freshBench, statusOf, benchSound, statusAt}
-use Rattle.bench.specs.Carry.{outcomeFor, effectOf, commandChecks, carryCode, carryOut, said, bytesChecks, taken, carryBytesCode, carryOutBytes}
+use Rattle.bench.specs.Carry.{outcomeFor, effectOf, commandChecks, carryCode, carryOut, bytesChecks, taken, carryBytesCode, carryOutBytes}
 use Rattle.bench.specs.Second.{benchAfter, secondAt}
-use Rattle.bench.specs.Events.{Event, command, bytes, second, run, afterOne, after, Reached}
+use Rattle.bench.specs.Events.{Event, command, bytes, second, run, typed, afterOne, after, Reached}
 use Rattle.bench.proofs.Outcomes.{judge-then, read-then, carry-code, carry-bytes-code}
-use Rattle.bench.proofs.InTurn.{leftBy, by-run}
+use Rattle.bench.proofs.InTurn.{leftBy, by-run, by-typed}
 use Rattle.bench.proofs.Camera.{GoodCamera, fresh-camera, camera-second, executed-good, handed-good}
 
 -- A sound bench: it passes the test of 27, and its store has 192 slots, eight counts and eight marks, as every store of a program has by its type.
@@ -226,6 +227,7 @@ event-keeps b good (command c) = by-command GoodBench b good c good (λ t. effec
 event-keeps b good (bytes s) = by-bytes GoodBench b good s good (λ t. effect-keeps b good (said s) (t .passed))
 event-keeps b good second = subst GoodBench (sym (second-is b good)) (second-sound b good)
 event-keeps b good (run kit pupil room) = by-run GoodBench b kit pupil room good (λ zero. left-good b good (rests kit ++ rests pupil))
+event-keeps b good (typed kit text room) = by-typed GoodBench b kit text room good (λ zero. left-good b good (rests kit ++ rests (bytesIn text)))
 
 pub after-keeps : (b : Bench) → GoodBench b → (es : List Event) → GoodBench (after b es)
 after-keeps b good [] = good

@@ -3,7 +3,7 @@
 use Prim.Native.Nat.{ℕ, _+_, _*_, _-_, _≤_}
 use mathlib.Core.Path.{_≡_, refl, sym, ap, _∙_}
 use mathlib.Core.List.{List, _++_}
-use mathlib.Core.Bool.{false}
+use mathlib.Core.Bool.{true, false}
 use native.Mathlib.Omega.{arith}
 use lib.ListN.{length, take, drop, length-append, length-drop}
 use lib.Seq.{take-at, drop-at}
@@ -16,15 +16,57 @@ use Rattle.walk.proofs.Turns.{from-place}
 use Rattle.bench.specs.declared.Bench.{Bench}
 use Rattle.bench.specs.declared.lists.Ran.{Ran}
 use Rattle.bench.specs.declared.lists.Begun.{Begun}
-use Rattle.bench.specs.Run.{runRests, runList, kitPart, pupilPart, runCode, begunCode, ranOf, runOf, roomAfter}
+use Rattle.bench.specs.Run.{ownNumbers, runList, kitPart, pupilWith, pupilPart, reportWith, reportOf}
+use Rattle.bench.specs.Run.{runCode, begunCode, ranOf, runOf, roomAfter}
+use Rattle.bench.specs.Status.{benchSound}
 use Rattle.bench.specs.Steps.{refusedWith}
-use Rattle.bench.proofs.InTurn.{list-leaves}
+use Rattle.bench.proofs.InTurn.{list-leaves, own-even}
 use Rattle.bench.proofs.Sound.{GoodBench, left-good}
 use Rattle.bench.proofs.Listing.{records-long, written-both}
 
--- A list keeps a bench sound.
-pub list-keeps : (b : Bench) → GoodBench b → (sender number : ℕ) (rs : List (List ℕ)) → GoodBench (runRests b sender number rs .bench)
-list-keeps b good sender number rs = rw (list-leaves b sender number rs) (left-good b good rs)
+-- The kit's list leaves a sound bench.
+pub kit-keeps : (b : Bench) → GoodBench b → (kit : List ℕ) {b₁ : Bench} → b₁ ≡ kitPart b kit .bench → benchSound b₁ ≡ true
+kit-keeps b good kit is = rw (is, list-leaves b 1 (ownNumbers kit) (rests kit) (own-even kit)) (left-good b good (rests kit) .sound)
+
+-- The records of both lists have room, whatever the pupil's numbers are, and the kit's list was carried out with m records.
+module _ (b : Bench) (kit numbers pupil room : List ℕ) (even : length numbers ≡ length (rests pupil))
+    (fits : (length (rests kit) + length (rests pupil)) * 8 ≤ length room) {m : ℕ} {b₁ : Bench} {room₁ : List ℕ}
+    (m-is : m ≡ length (rests kit)) (b₁-is : b₁ ≡ kitPart b kit .bench) (room₁-is : room₁ ≡ written (kitPart b kit .records) room) where
+  abbrev first : List ℕ
+  first = kitPart b kit .records
+
+  first-long : length first ≡ m * 8
+  first-long = omega (arith, records-long b 1 (ownNumbers kit) (rests kit) (own-even kit))
+
+  first-put : room₁ ≡ first ++ drop (length first) room
+  first-put = room₁-is ∙ with-room first room (omega (arith, first-long))
+
+  -- So the pupil's have room behind the kit's.
+  pub rest-fits : (m + length (rests pupil)) * 8 ≤ length room₁
+  rest-fits =
+      let long = ap length first-put ∙ length-append first (drop (length first) room) in
+      omega (arith, first-long, length-drop (length first) room)
+
+  pub part-fits : length (rests pupil) * 8 ≤ length (take (length room₁ - m * 8) (drop (m * 8) room₁))
+  part-fits = rw (from-place room₁ (m * 8)) (omega (arith, rest-fits, length-drop (m * 8) room₁))
+
+  -- The pupil's list was carried out then, in that part of the room.
+  module _ {b₂ : Bench} {part : List ℕ} (b₂-is : b₂ ≡ runList b₁ 2 numbers pupil .bench)
+      (part-is : part ≡ written (runList b₁ 2 numbers pupil .records) (take (length room₁ - m * 8) (drop (m * 8) room₁))) where
+    abbrev second : List ℕ
+    second = pupilWith b kit numbers pupil .records
+
+    pub bench-left : b₂ ≡ pupilWith b kit numbers pupil .bench
+    bench-left = b₂-is ∙ ap (λ (b : Bench). runList b 2 numbers pupil .bench) b₁-is
+
+    pupil-put : part ≡ written second (take (length room₁ - m * 8) (drop (m * 8) room₁))
+    pupil-put = part-is ∙ ap (λ (b : Bench). written (runList b 2 numbers pupil .records) (take (length room₁ - m * 8) (drop (m * 8) room₁))) b₁-is
+
+    pub both-put : putMid (m * 8) (length room₁ - m * 8) room₁ part ≡ written (reportWith b kit numbers pupil) room
+    both-put =
+        part-written (m * 8) second room₁ part (omega (arith, rest-fits)) pupil-put
+        ∙ rw (first-put, take-at first (drop (length first) room) (m * 8) first-long, drop-at first (drop (length first) room) (m * 8) first-long)
+        (sym (written-both first second room (omega (arith, first-long, records-long (kitPart b kit .bench) 2 numbers (rests pupil) even))))
 
 module _ (b : Bench) (kit pupil room : List ℕ) where
   -- What a run promises of its answer and of its room afterwards.
@@ -37,43 +79,9 @@ module _ (b : Bench) (kit pupil room : List ℕ) where
   unfolding runOf roomAfter
   refused-run begun r is other code = rw (is, code, other) (refl, refl)
 
-  -- The records of both lists have room, and the kit's list was carried out with m of them.
-  module _ (fits : (length (rests kit) + length (rests pupil)) * 8 ≤ length room) {m : ℕ} {b₁ : Bench} {room₁ : List ℕ}
-      (m-is : m ≡ length (rests kit)) (b₁-is : b₁ ≡ kitPart b kit .bench) (room₁-is : room₁ ≡ written (kitPart b kit .records) room) where
-    abbrev first : List ℕ
-    first = kitPart b kit .records
-
-    first-long : length first ≡ m * 8
-    first-long = omega (arith, records-long b 1 1 (rests kit))
-
-    first-put : room₁ ≡ first ++ drop (length first) room
-    first-put = room₁-is ∙ with-room first room (omega (arith, first-long))
-
-    -- So the pupil's have room behind the kit's.
-    pub rest-fits : (m + length (rests pupil)) * 8 ≤ length room₁
-    rest-fits =
-        let long = ap length first-put ∙ length-append first (drop (length first) room) in
-        omega (arith, first-long, length-drop (length first) room)
-
-    pub part-fits : length (rests pupil) * 8 ≤ length (take (length room₁ - m * 8) (drop (m * 8) room₁))
-    part-fits = rw (from-place room₁ (m * 8)) (omega (arith, rest-fits, length-drop (m * 8) room₁))
-
-    -- The pupil's list was carried out then with n records, in that part of the room.
-    module _ {n : ℕ} {b₂ : Bench} {part : List ℕ} (n-is : n ≡ length (rests pupil)) (b₂-is : b₂ ≡ runList b₁ 2 pupil .bench)
-        (part-is : part ≡ written (runList b₁ 2 pupil .records) (take (length room₁ - m * 8) (drop (m * 8) room₁))) where
-      abbrev second : List ℕ
-      second = pupilPart b kit pupil .records
-
-      pupil-put : part ≡ written second (take (length room₁ - m * 8) (drop (m * 8) room₁))
-      pupil-put = part-is ∙ ap (λ (b : Bench). written (runList b 2 pupil .records) (take (length room₁ - m * 8) (drop (m * 8) room₁))) b₁-is
-
-      both-put : putMid (m * 8) (length room₁ - m * 8) room₁ part ≡ written (first ++ second) room
-      both-put =
-          part-written (m * 8) second room₁ part (omega (arith, rest-fits)) pupil-put
-          ∙ rw (first-put, take-at first (drop (length first) room) (m * 8) first-long, drop-at first (drop (length first) room) (m * 8) first-long)
-          (sym (written-both first second room (omega (arith, first-long, records-long (kitPart b kit .bench) 2 1 (rests pupil)))))
-
-      pub run-done : runCode b kit pupil room ≡ 0
-          → Promise (record { bench = b₂; begun = Begun.Done; kit = m; pupil = n }) (putMid (m * 8) (length room₁ - m * 8) room₁ part)
-      unfolding runOf roomAfter
-      run-done code = (rw (code, b₂-is, b₁-is, m-is, n-is), rw code both-put)
+  -- A run that was carried out.
+  pub run-done : {m n : ℕ} {b₂ : Bench} {left : List ℕ} → runCode b kit pupil room ≡ 0 → m ≡ length (rests kit) → n ≡ length (rests pupil)
+      → b₂ ≡ pupilPart b kit pupil .bench → left ≡ written (reportOf b kit pupil) room
+      → Promise (record { bench = b₂; begun = Begun.Done; kit = m; pupil = n }) left
+  unfolding runOf roomAfter
+  run-done code m-is n-is bench-is room-is = (rw (code, bench-is, m-is, n-is), rw code room-is)

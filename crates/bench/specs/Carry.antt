@@ -7,7 +7,7 @@ use Rattle.wire.specs.declared.kinds.Command.{Command}
 use Rattle.wire.specs.declared.judging.Told.{Told}
 use Rattle.wire.specs.Codes.{Check, firstOf}
 use Rattle.wire.specs.Judge.{toldWith, toldOf, argChecks, firstBadIn, parOf}
-use Rattle.wire.specs.Read.{lengthOf, commandIn, readChecks}
+use Rattle.wire.specs.Read.{said, readChecks}
 use Rattle.camera.specs.declared.Camera.{Camera}
 use Rattle.camera.specs.Camera.{executedOf}
 use Rattle.store.specs.Checks.{codeOf, storeChecks}
@@ -57,10 +57,6 @@ carryCode b c = firstOf (carryChecks b c)
 unfoldable pub carryOut : Bench → Command → Outcome
 unfolding carryCode
 carryOut b c = outcomeFor (carryCode b c) b c
-
--- The command that bytes say.
-abbrev pub said : List ℕ → Command
-said s = commandIn s (lengthOf s)
 
 -- Rows 1 to 19, on bytes.
 abbrev pub bytesChecks : Bench → List ℕ → List Check

@@ -1,24 +1,28 @@
--- What can happen to a bench, one thing after another: commands, decoded or from bytes, seconds, and runs of two lists.
+-- What can happen to a bench, one thing after another: commands, decoded or from bytes, seconds, runs of two lists, and runs of a typed list.
 use Prim.Native.Nat.{ℕ, zero, suc}
 use mathlib.Core.Path.{_≡_}
 use mathlib.Core.List.{List, [], _∷_, _++_}
 use mathlib.Core.Bool.{Bool, false, not, _&&_, _||_}
 use lib.Dec.{eqb}
 use Rattle.wire.specs.declared.kinds.Command.{Command}
+use Rattle.wire.specs.Read.{said}
 use Rattle.walk.specs.Walk.{rests}
+use Rattle.text.specs.Assemble.{bytesIn}
 use Rattle.store.specs.declared.roles.Role.{Role}
 use Rattle.store.specs.Roles.{roleOf}
 use Rattle.bench.specs.declared.Bench.{Bench}
 use Rattle.bench.specs.Status.{freshBench}
-use Rattle.bench.specs.Carry.{said, taken, carryCode, carryBytesCode, carryOut, carryOutBytes}
+use Rattle.bench.specs.Carry.{taken, carryCode, carryBytesCode, carryOut, carryOutBytes}
 use Rattle.bench.specs.Second.{secondAt}
 use Rattle.bench.specs.Run.{runCode, runOf}
+use Rattle.bench.specs.Typed.{typedFound, typedOf}
 
 pub data Event : Type 0 where
   command : Command → Event
   bytes : List ℕ → Event
   second : Event
   run : (kit pupil room : List ℕ) → Event
+  typed : (kit text room : List ℕ) → Event
 
 -- The bench after one event, and after several.
 abbrev pub afterOne : Bench → Event → Bench
@@ -26,6 +30,7 @@ afterOne b (command c) = carryOut b c .bench
 afterOne b (bytes s) = carryOutBytes b s .bench
 afterOne b second = secondAt b .bench
 afterOne b (run kit pupil room) = runOf b kit pupil room .bench
+afterOne b (typed kit text room) = typedOf b kit text room .bench
 
 abbrev pub after : Bench → List Event → Bench
 after b [] = b
@@ -43,6 +48,7 @@ secondsIn (command c ∷ es) = secondsIn es
 secondsIn (bytes s ∷ es) = secondsIn es
 secondsIn (second ∷ es) = suc (secondsIn es)
 secondsIn (run kit pupil room ∷ es) = secondsIn es
+secondsIn (typed kit text room ∷ es) = secondsIn es
 
 -- Is this command one that executes such a role?
 abbrev pub executes : (Role → Bool) → Command → Bool
@@ -63,6 +69,7 @@ accepts test b (command c) = takes test (carryCode b c) c
 accepts test b (bytes s) = takes test (carryBytesCode b s) (said s)
 accepts test b second = false
 accepts test b (run kit pupil room) = eqb (runCode b kit pupil room) 0 && takesAny test b (rests kit ++ rests pupil)
+accepts test b (typed kit text room) = eqb (typedFound b kit text room .told .code) 0 && takesAny test b (rests kit ++ rests (bytesIn text))
 
 -- Is one accepted meanwhile?
 abbrev pub acceptsAny : (Role → Bool) → Bench → List Event → Bool

@@ -20,25 +20,40 @@ pub record Listed : Type 0 where
   pub bench : Bench
   pub records : List ℕ
 
--- "Each command, accepted or not, gets an 8-byte record .. its number in its own list": the commands as each finds the list, numbered from
--- a first number on.
-unfoldable pub runRests : Bench → ℕ → ℕ → List (List ℕ) → Listed
-runRests b sender number [] = record { bench = b; records = [] }
-runRests b sender number (r ∷ rs) =
+-- "its number in its own list, .. from 1": the numbers of so many commands, from a first one on; so those of a raw list.
+abbrev pub numbersFrom : ℕ → List (List ℕ) → List ℕ
+numbersFrom number [] = []
+numbersFrom number (r ∷ rs) = number ∷ numbersFrom (number + 1) rs
+
+abbrev pub ownNumbers : List ℕ → List ℕ
+ownNumbers s = numbersFrom 1 (rests s)
+
+-- "Each command, accepted or not, gets an 8-byte record": the commands as each finds the list, and beside them the numbers of their records.
+unfoldable pub runRests : Bench → ℕ → List ℕ → List (List ℕ) → Listed
+runRests b sender [] rs = record { bench = b; records = [] }
+runRests b sender (number ∷ numbers) [] = record { bench = b; records = [] }
+runRests b sender (number ∷ numbers) (r ∷ rs) =
     let now = taken b r in
-    let later = runRests (now .bench) sender (number + 1) rs in
+    let later = runRests (now .bench) sender numbers rs in
     record { bench = later .bench; records = recordBytes sender (now .told .code) (now .told .par) number ++ later .records }
 
--- One sender's list from its start.
-abbrev pub runList : Bench → ℕ → List ℕ → Listed
-runList b sender s = runRests b sender 1 (rests s)
+-- One sender's list from its start, with these numbers, or with its own.
+abbrev pub runList : Bench → ℕ → List ℕ → List ℕ → Listed
+runList b sender numbers s = runRests b sender numbers (rests s)
+
+abbrev pub ownList : Bench → ℕ → List ℕ → Listed
+ownList b sender s = runList b sender (ownNumbers s) s
 
 -- "The run executes the kit's list from its start, then the pupil's from its own start, even if the kit's ended early."
 abbrev pub kitPart : Bench → List ℕ → Listed
-kitPart b kit = runList b 1 kit
+kitPart b kit = ownList b 1 kit
+
+-- The pupil's records carry these numbers; in the run of two raw lists they are the list's own.
+abbrev pub pupilWith : Bench → List ℕ → List ℕ → List ℕ → Listed
+pupilWith b kit numbers pupil = runList (kitPart b kit .bench) 2 numbers pupil
 
 abbrev pub pupilPart : Bench → List ℕ → List ℕ → Listed
-pupilPart b kit pupil = runList (kitPart b kit .bench) 2 pupil
+pupilPart b kit pupil = pupilWith b kit (ownNumbers pupil) pupil
 
 -- "Whole runs: 20, either list longer than 4,096 bytes; then 21, report room below 8,192 bytes; then 27".
 abbrev pub runChecks : Bench → List ℕ → List ℕ → List ℕ → List Check
@@ -78,8 +93,11 @@ unfolding runCode
 runOf b kit pupil room = runFor (runCode b kit pupil room) b kit pupil
 
 -- The records of both lists, one after another.
+abbrev pub reportWith : Bench → List ℕ → List ℕ → List ℕ → List ℕ
+reportWith b kit numbers pupil = kitPart b kit .records ++ pupilWith b kit numbers pupil .records
+
 abbrev pub reportOf : Bench → List ℕ → List ℕ → List ℕ
-reportOf b kit pupil = kitPart b kit .records ++ pupilPart b kit pupil .records
+reportOf b kit pupil = reportWith b kit (ownNumbers pupil) pupil
 
 -- The room afterwards: "Bytes after the last record stay"; all of it is as it was on a refusal.
 unfoldable pub roomAfter : Bench → List ℕ → List ℕ → List ℕ → List ℕ

@@ -5,7 +5,7 @@ use mathlib.Core.List.{List, [], _∷_, _++_}
 use Rattle.wire.specs.declared.kinds.Command.{Command}
 use Rattle.wire.specs.Codes.{firstOf}
 use Rattle.wire.specs.Judge.{toldWith, argChecks}
-use Rattle.wire.specs.Read.{Answer, answerFor, readChecks}
+use Rattle.wire.specs.Read.{Answer, answerFor, readChecks, said}
 use Rattle.store.specs.declared.tally.Tally.{Tally}
 use Rattle.store.specs.declared.tally.Survey.{Survey}
 use Rattle.store.specs.TallySteps.{tallyOf, storeOf, tallyChecks, tallyCode, tallyAfter, entriesAfter}
@@ -13,8 +13,10 @@ use Rattle.bench.specs.declared.Bench.{Bench}
 use Rattle.bench.specs.declared.deciding.Decision.{Decision}
 use Rattle.bench.specs.declared.lists.Ran.{Ran}
 use Rattle.bench.specs.declared.lists.Begun.{Begun}
+use Rattle.bench.specs.declared.lists.typed.TypedBegun.{TypedBegun}
+use Rattle.bench.specs.declared.lists.typed.TypedRan.{TypedRan}
 use Rattle.bench.specs.Status.{benchSound}
-use Rattle.bench.specs.Carry.{Outcome, verdictOf, cameraAfter, said}
+use Rattle.bench.specs.Carry.{Outcome, verdictOf, cameraAfter}
 use Rattle.bench.specs.Second.{SecondTold}
 
 -- What a decision says: a code with its parameter, and the command where the code is 0.
@@ -62,3 +64,6 @@ stayedAt b = record { told = toldWith 27 0; bench = b; handed = [] }
 -- A refused run: the bench as it was, and counts of zero.
 abbrev pub refusedWith : Bench → Begun → Ran
 refusedWith b begun = record { bench = b; begun = begun; kit = 0; pupil = 0 }
+
+abbrev pub refusedTyped : Bench → TypedBegun → TypedRan
+refusedTyped b begun = record { bench = b; begun = begun; kit = 0; pupil = 0 }

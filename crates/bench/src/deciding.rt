@@ -26,7 +26,7 @@ pub fn told_by(decision: Decision) -> Told
 }
 
 // Codes 11 to 19, on a command that passed the earlier ones.
-fn permitted(tally: Tally, command: Command) -> Decision
+pub fn permitted(tally: Tally, command: Command) -> Decision
     ensures { λ r. ⌜ decisionOf r ≡ permittedBy tally command ⌝ }
 {
     match tally.permits(command) {

@@ -7,8 +7,11 @@ ghost use Rattle.words.specs.BigEndian.{written};
 ghost use Rattle.walk.specs.Walk.{rests};
 ghost use Rattle.store.specs.TallySteps.{Tallied};
 ghost use Rattle.bench.specs.Status.{benchSound};
-ghost use Rattle.bench.specs.Run.{begunCode, runList, ranOf, runOf, roomAfter};
+ghost use Rattle.bench.specs.Run.{begunCode, ownList, ranOf, runOf, roomAfter};
 ghost use Rattle.bench.specs.Steps.{refusedWith};
+
+mod typed;
+
 use super::Bench;
 use super::camera_after;
 use super::deciding::Decision;
@@ -17,6 +20,9 @@ use super::deciding::told_by;
 use store::Slot;
 use store::Store;
 use store::Tally;
+pub use typed::TypedBegun;
+pub use typed::TypedRan;
+pub use typed::finding_of;
 
 // The room that a run needs: a record for each command that two lists of the longest can have.
 pub const ROOM: usize = 8192;
@@ -60,9 +66,9 @@ struct Part {
 fn run_list(bench: Bench, tally: Tally, list: &[u8], sender: u8, room: &mut [u8]) -> Part
     requires { ⌜ (length (now list) ≤ 4096) × (length (rests (now list)) * 8 ≤ length (now room)) ⌝ }
     requires { ⌜ (benchSound bench ≡ true) × Tallied (bench .store) tally ⌝ }
-    ensures { λ r. ⌜ (r .bench ≡ runList bench sender (now (list .entry)) .bench) × (r .count ≡ length (rests (now (list .entry)))) ⌝ }
+    ensures { λ r. ⌜ (r .bench ≡ ownList bench sender (now (list .entry)) .bench) × (r .count ≡ length (rests (now (list .entry)))) ⌝ }
     ensures { λ r. ⌜ Tallied (r .bench .store) (r .tally) ⌝ }
-    ensures { λ r. ⌜ now (room .exit) ≡ written (runList bench sender (now (list .entry)) .records) (now (room .entry)) ⌝ }
+    ensures { λ r. ⌜ now (room .exit) ≡ written (ownList bench sender (now (list .entry)) .records) (now (room .entry)) ⌝ }
 {
     let mut camera = bench.camera;
     let store = bench.store;

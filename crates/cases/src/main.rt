@@ -8,19 +8,21 @@ mod frames;
 mod lines;
 mod lists;
 mod making;
+mod notation;
 mod reading;
 mod rooms;
 mod say;
 mod setting;
 mod states;
 mod telling;
+mod texts;
 
 use bench::Bench;
 
 // The longest input, and the most bytes of one line.
 const TEXT: usize = 262144;
 
-const BYTES: usize = 192;
+const BYTES: usize = 40000;
 
 // Verbs of single frames.
 fn framed(line: &[u8], s: &[u8]) {
@@ -35,7 +37,22 @@ fn framed(line: &[u8], s: &[u8]) {
     }
 }
 
-// Verbs of single commands, and else those of frames.
+// Verbs of texts, and else those of frames.
+fn translated(line: &[u8], s: &[u8]) {
+    if lines::begins(line, b"assemble ") {
+        texts::assemble(s);
+    } else if lines::begins(line, b"list ") {
+        texts::list(s);
+    } else if lines::begins(line, b"letters ") {
+        texts::letters(s);
+    } else if lines::begins(line, b"line ") {
+        texts::line(s);
+    } else {
+        framed(line, s);
+    }
+}
+
+// Verbs of single commands, and else those of texts.
 fn single(line: &[u8], s: &[u8]) {
     if lines::begins(line, b"read ") {
         reading::read(s);
@@ -48,7 +65,7 @@ fn single(line: &[u8], s: &[u8]) {
     } else if lines::begins(line, b"write ") {
         decoded::write(s);
     } else {
-        framed(line, s);
+        translated(line, s);
     }
 }
 
@@ -60,6 +77,8 @@ fn looked(b: Bench, line: &[u8], s: &[u8]) {
         states::state(setting::set(b, s));
     } else if lines::begins(line, b"run ") {
         lists::run(b, s);
+    } else if lines::begins(line, b"typed ") {
+        texts::typed(b, s);
     } else if lines::begins(line, b"shown ") {
         lists::shown(s);
     } else {
@@ -119,7 +138,7 @@ fn case(b: Bench, line: &[u8]) -> Bench {
         return b;
     }
     let mut room = [0u8; BYTES];
-    let count = lines::bytes(line, &mut room);
+    let count = notation::bytes(line, &mut room);
     if room.len() < count {
         say::text(b"too many bytes\n");
         return b;

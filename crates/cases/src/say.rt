@@ -1,4 +1,4 @@
-// Printing an answer: a code with its parameter, bytes in hex, or a command that was taken.
+// Printing an answer: a code with its parameter, bytes in hex or as text, or a command that was taken.
 // Such a command is printed with its flag, its name and its own arguments, goals by their bits.
 use super::lines;
 use wire::Command;
@@ -29,6 +29,34 @@ pub fn hex(s: &[u8]) {
         byte(s[i]);
         i += 1;
     }
+}
+
+// A character of a text; one that has no sign of its own as its escape in a line of a case.
+fn character(b: u8) {
+    if b == b'\n' {
+        text(b"\\n");
+    } else if b' ' <= b && b <= b'~' {
+        let one = [b];
+        text(&one);
+    } else {
+        text(b"\\x");
+        byte(b);
+    }
+}
+
+fn characters(s: &[u8]) {
+    let mut i: usize = 0;
+    while i < s.len() {
+        character(s[i]);
+        i += 1;
+    }
+}
+
+// Bytes as a text in quotes.
+pub fn quoted(s: &[u8]) {
+    text(b"\"");
+    characters(s);
+    text(b"\"");
 }
 
 // A number behind its name.

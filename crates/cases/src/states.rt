@@ -1,5 +1,6 @@
 // `state`: the bench, with fields written as `set` does, is given to every call that takes one: a FLUSH to carry out, a second, the status, and two
-// lists of a FLUSH each to run. Each answers with its code, 27 where the state is not sound, and with the state as it came or changed.
+// lists of a FLUSH each to run, the second one raw and then typed. Each answers with its code, 27 where the state is not sound, and with the state as it
+// came or changed.
 use super::asking;
 use super::compare;
 use super::rooms;
@@ -38,18 +39,31 @@ fn second(b: Bench) {
     asking::handed(over);
 }
 
-// A run, with the number of records for each sender, and whether the room behind them is as it was.
+// How many records each sender has, and whether the room behind them is as it was.
+fn records(kit: u32, pupil: u32, room: &[u8]) {
+    say::field(b" ", kit as u64);
+    say::field(b" ", pupil as u64);
+    rooms::rest(room, (kit as usize + pupil as usize) * report::RECORD);
+}
+
+// A run of two raw lists.
 fn run(b: Bench, list: &[u8]) {
     let mut room = [rooms::FILL; bench::ROOM];
     let ran = b.run(list, list, &mut room);
     let begun = ran.begun;
     answer(b", run ", bench::code_of(begun), b, ran.bench);
-    say::field(b" ", ran.kit as u64);
-    say::field(b" ", ran.pupil as u64);
-    rooms::rest(
-        &room,
-        (ran.kit as usize + ran.pupil as usize) * report::RECORD,
-    );
+    records(ran.kit, ran.pupil, &room);
+}
+
+// A run of a raw list and a typed one.
+fn typed(b: Bench, list: &[u8]) {
+    let mut room = [rooms::FILL; bench::ROOM];
+    let ran = b.run_typed(list, b"tlm_flush\n", &mut room);
+    let begun = ran.begun;
+    let found = bench::finding_of(begun);
+    let told = found.told;
+    answer(b", typed ", told.code, b, ran.bench);
+    records(ran.kit, ran.pupil, &room);
 }
 
 // `state`: sound or not, and the answer of every call.
@@ -72,4 +86,5 @@ pub fn state(b: Bench) {
         Status::Unsound => say::text(b", status 27"),
     }
     run(b, bytes);
+    typed(b, bytes);
 }

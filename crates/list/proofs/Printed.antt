@@ -6,12 +6,12 @@ use mathlib.Core.List.{List, [], _∷_, _++_}
 use mathlib.Core.Bool.{Bool, true, false, cond}
 use native.Mathlib.Omega.{arith}
 use lib.ListN.{length, take, drop, length-drop}
-use lib.Seq.{getD-take, getD-drop, take-at, take-append-le, drop-append-le, drop-append-add}
+use lib.Seq.{take-at, take-append-le, drop-append-le, drop-append-add}
 use lib.Dec.{ltb}
 use borrow.Author.Tests.{lt-ltb}
-use Rattle.words.specs.BigEndian.{byteAt, wordAt, bytesOf}
+use Rattle.words.specs.BigEndian.{bytesOf}
+use Rattle.words.specs.Text.{ascii, decimalIn}
 use Rattle.words.proofs.Laws.{with-room}
-use Rattle.wire.specs.declared.judging.Told.{Told}
 use Rattle.wire.specs.Read.{sumOf, readOf, spanOf}
 use Rattle.wire.specs.Judge.{judgeCode}
 use Rattle.wire.specs.Write.{commandBytes}
@@ -22,11 +22,13 @@ use Rattle.bench.specs.Carry.{taken}
 use Rattle.bench.specs.Run.{ranOf, begunCode, runOf, runRests, kitPart, pupilPart, reportOf, roomAfter}
 use Rattle.bench.specs.Status.{freshBench}
 use Rattle.bench.proofs.Sound.{fresh-sound}
-use Rattle.bench.proofs.Report.{recordAt, recordOf, verdictAt}
+use Rattle.bench.proofs.Report.{verdictAt}
 use Rattle.bench.proofs.Report as report
 use Rattle.listing.specs.Kit.{kitBytes}
-use Rattle.listing.specs.Text.{ascii, decimalIn, lineOf, lineAt, linesTo, reportText, refusalLine}
-use Rattle.list.specs.Printed.{printed}
+use Rattle.listing.specs.Text.{lineOf, lineAt, linesTo, reportText}
+use Rattle.listing.specs.Refusal.{refusalLine}
+use Rattle.listing.proofs.RecordLine.{lineFor, record-line}
+use Rattle.list.specs.Printed.{refusal, printed}
 
 -- On a fresh bench, with the kit's list and a room of 8,192 bytes, a run is refused, with 20, exactly where the pupil's list is above 4,096 bytes.
 pub refused-20 : (pupil room : List ℕ) → length room ≡ 8192 → runOf freshBench kitBytes pupil room .code ≡ cond (ltb 4096 (length pupil)) 20 0
@@ -44,13 +46,13 @@ module _ (b : Bench) (kit pupil room : List ℕ) (fresh : b ≡ freshBench) (own
   text : reportText (reportOf b kit pupil) ≡ reportText (reportOf freshBench kitBytes pupil)
   text = ap (λ c. reportText (reportOf c kit pupil)) fresh ∙ ap (λ k. reportText (reportOf freshBench k pupil)) own
 
-  pub prints-refusal : (runOf b kit pupil room .code ≡ 0 → ⊥) → refusalLine (runOf b kit pupil room .code) ≡ printed pupil
+  pub prints-refusal : (runOf b kit pupil room .code ≡ 0 → ⊥) → refusal (runOf b kit pupil room .code) ≡ printed pupil
   unfolding printed
   prints-refusal refused = go (ltb 4096 (length pupil)) code
     where
       go : (above : Bool) → runOf b kit pupil room .code ≡ cond above 20 0
-          → refusalLine (runOf b kit pupil room .code) ≡ cond above (refusalLine 20) (reportText (reportOf freshBench kitBytes pupil))
-      go true is = ap refusalLine is
+          → refusal (runOf b kit pupil room .code) ≡ cond above (refusal 20) (reportText (reportOf freshBench kitBytes pupil))
+      go true is = ap refusal is
       go false is = absurd (refused is)
 
   pub prints-report : runOf b kit pupil room .code ≡ 0 → reportText (reportOf b kit pupil) ≡ printed pupil
@@ -58,7 +60,7 @@ module _ (b : Bench) (kit pupil room : List ℕ) (fresh : b ≡ freshBench) (own
   prints-report accepted = go (ltb 4096 (length pupil)) code
     where
       go : (above : Bool) → runOf b kit pupil room .code ≡ cond above 20 0
-          → reportText (reportOf b kit pupil) ≡ cond above (refusalLine 20) (reportText (reportOf freshBench kitBytes pupil))
+          → reportText (reportOf b kit pupil) ≡ cond above (refusal 20) (reportText (reportOf freshBench kitBytes pupil))
       go true is = absurd (omega (arith, is, accepted))
       go false is = text
 
@@ -88,38 +90,6 @@ module _ (b : Bench) (kit pupil room : List ℕ) (r : Ran) (told : ranOf r ≡ r
       let stays = drop (length (reportOf b kit pupil)) room in
       rw (accepted, with-room (reportOf b kit pupil) room (omega (arith, enough, records-fit)))
       (take-at (reportOf b kit pupil) stays ((r .kit + r .pupil) * 8) records-long)
-
--- The line of a sender, a number and a verdict.
-abbrev pub lineFor : ℕ → ℕ → Told → List ℕ
-lineFor sender number verdict = lineOf (record { sender = sender; number = number; code = verdict .code; par = verdict .par })
-
--- The line at a place of a report where a record stands is the line of that record.
-module _ (room : List ℕ) (k sender number : ℕ) (verdict : Told) (stands : recordAt room k ≡ recordOf sender verdict number) where
-  byte-there : (j at : ℕ) → j < 8 → 8 * k + j ≡ at → byteAt room at ≡ byteAt (recordOf sender verdict number) j
-  byte-there j at within place =
-      ap (byteAt room) (sym place)
-      ∙ sym (getD-take 8 (drop (8 * k) room) j 0 within ∙ getD-drop (8 * k) room j 0)
-      ∙ ap (λ bytes. byteAt bytes j) stands
-
-  number-there : wordAt room (k * 8 + 4) ≡ number
-  number-there =
-      let at = k * 8 + 4 in
-      omega (
-        arith,
-        byte-there 4 at (omega arith) (omega arith),
-        byte-there 5 (at + 1) (omega arith) (omega arith),
-        byte-there 6 (at + 2) (omega arith) (omega arith),
-        byte-there 7 (at + 2 + 1) (omega arith) (omega arith),
-      )
-
-  pub record-line : lineAt room k ≡ lineFor sender number verdict
-  record-line =
-      rw (
-        byte-there 0 (k * 8) (omega arith) (omega arith),
-        byte-there 1 (k * 8 + 1) (omega arith) (omega arith),
-        byte-there 2 (k * 8 + 2) (omega arith) (omega arith),
-        number-there,
-      )
 
 -- So the lines under the header are the kit's and then the pupil's, each with its own sender's numbers from 1 on and the verdict on that command.
 module _ (b : Bench) (kit pupil : List ℕ) where

@@ -4,12 +4,16 @@ ghost use mathlib.Core.Path.{_≡_};
 ghost use Prim.Native.Nat.{_≤_};
 ghost use mathlib.Core.List.{_++_};
 ghost use lib.ListN.{length, drop};
+ghost use Rattle.wire.specs.Judge.{toldWith};
+ghost use Rattle.text.specs.Findings.{finding};
 ghost use Rattle.listing.specs.Text.{textRoom};
 ghost use Rattle.list.specs.Printed.{printed};
 use bench::Bench;
 use libc::STDERR_FILENO;
-use libc::STDIN_FILENO;
 use libc::STDOUT_FILENO;
+use listing::Numbered;
+use text::Finding;
+use wire::Told;
 
 // A list of the longest and one byte more, so that a longer list is seen to be one.
 const INPUT: usize = walk::LONGEST + 1;
@@ -32,42 +36,13 @@ fn text_room() -> [u8; listing::TEXT]
     [0; listing::TEXT]
 }
 
-// What was read: how many bytes, and whether the read behind them failed.
-struct Input {
-    bytes: usize,
-    failed: bool,
-}
-
-// One read of standard input into the front of a room: no bytes at the input's end, or where it cannot be read.
-fn read_once(room: &mut [u8]) -> Input
-    ensures { λ r. ⌜ r .bytes ≤ length (now (room .exit)) ⌝ }
+// A finding of the whole run, without a line and a parameter.
+fn found_with(code: u8) -> Finding
+    ensures { λ r. ⌜ r ≡ finding (toldWith code 0) 0 ⌝ }
 {
-    let got = libc::read(STDIN_FILENO, room);
-    Input {
-        bytes: io::count(got, room),
-        failed: got < 0,
-    }
-}
-
-// Reads standard input into the front of a room, until the room is full, the input ends or a read fails. That it failed is told: what was read by
-// then must not be taken for the whole list.
-fn read_input(room: &mut [u8]) -> Input
-    ensures { λ r. ⌜ r .bytes ≤ length (now (room .exit)) ⌝ }
-{
-    let mut bytes = 0;
-    while bytes < room.len() {
-        let more = read_once(&mut room[bytes..]);
-        if more.bytes == 0 {
-            return Input {
-                bytes,
-                failed: more.failed,
-            };
-        }
-        bytes += more.bytes;
-    }
-    Input {
-        bytes,
-        failed: false,
+    Finding {
+        told: Told { code, par: 0 },
+        number: 0,
     }
 }
 
@@ -84,7 +59,7 @@ fn put_printed(text: &mut [u8], pupil: &[u8]) -> usize
     let begun = ran.begun;
     let code = bench::code_of(begun);
     if code != 0 {
-        return listing::bytes_of(listing::put_refusal(text, code));
+        return listing::bytes_of(listing::put_refusal(text, Numbered::Lines, found_with(code)));
     }
     let end = (ran.kit as usize + ran.pupil as usize) * report::RECORD;
     listing::bytes_of(listing::put_report(text, &records[..end]))
@@ -92,7 +67,7 @@ fn put_printed(text: &mut [u8], pupil: &[u8]) -> usize
 
 fn main() {
     let mut pupil = input_room();
-    let input = read_input(&mut pupil);
+    let input = input::read_input(&mut pupil);
     if input.failed {
         io::write_all(STDERR_FILENO, b"list: standard input cannot be read\n");
         return;

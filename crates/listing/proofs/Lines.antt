@@ -1,22 +1,23 @@
 -- The lines: a sender's name by cases, and how long a line is.
 use Prim.Native.Nat.{ℕ, zero, suc, _+_, _*_, _/_, _≤_, _<_}
 use mathlib.Core.Path.{_≡_, refl, ap, _∙_}
-use mathlib.Core.List.{List}
+use mathlib.Core.List.{List, _++_}
 use mathlib.Core.Bool.{Bool, true, false, cond}
 use native.Mathlib.Omega.{arith}
-use lib.ListN.{length, length-append}
+use lib.ListN.{length, drop, length-append}
 use lib.Dec.{ltb, eqb}
 use borrow.Author.Tests.{eq-eqb, ne-eqb, le-leb, ltb-true, ltb-false}
-use Rattle.words.specs.BigEndian.{byteAt}
+use Rattle.words.specs.BigEndian.{byteAt, written}
+use Rattle.words.specs.Text.{ascii, decimal}
+use Rattle.words.proofs.Laws.{with-room}
+use Rattle.words.proofs.Decimal.{digits-few, digits-below}
 use Rattle.listing.specs.declared.Fields.{Fields}
 use Rattle.listing.specs.declared.Put.{Put}
 use Rattle.listing.specs.Answer.{answerOf, answerFor}
 use Rattle.listing.specs.Text.{
-  ascii,
   ended,
   blank,
   lineFeed,
-  decimal,
   nameOf,
   lineOf,
   recordLength,
@@ -28,9 +29,8 @@ use Rattle.listing.specs.Text.{
   reportText,
   longestLine,
   textRoom,
-  refusalLine,
 }
-use Rattle.listing.proofs.Decimal.{digits-few, digits-below, length-ended}
+use Rattle.listing.proofs.Decimal.{length-ended}
 
 -- The name of a sender: the kit's, the pupil's, and any other.
 pub name-kit : (sender : ℕ) → sender ≡ 1 → nameOf sender ≡ ascii "kit "
@@ -60,10 +60,6 @@ pub length-line : (f : Fields)
     ≡ length (nameOf (f .sender)) + length (ended (f .number) blank) + length (ended (f .code) blank) + length (ended (f .par) lineFeed)
 unfolding lineOf
 length-line f = simp length-append
-
-pub length-refusal : (code : ℕ) → length (refusalLine code) ≡ 8 + length (ended code lineFeed)
-unfolding refusalLine
-length-refusal code = length-append (ascii "refused ") (ended code lineFeed)
 
 -- No line is longer than the longest, where its sender, code and parameter are bytes.
 pub line-short : (f : Fields) → f .sender < 256 → f .code < 256 → f .par < 256 → length (lineOf f) ≤ longestLine
@@ -114,6 +110,14 @@ pub text-short : (report : List ℕ) → ((i : ℕ) → byteAt report i < 256) �
 text-short report bytes = omega (arith, length-text report, lines-short report bytes (length report / recordLength))
 
 -- A writer that has room says how many bytes it put.
-pub put-whole : (put : Put) (bytes room : List ℕ) → answerOf put ≡ answerFor bytes room → length bytes ≤ length room
+put-whole : (put : Put) (bytes room : List ℕ) → answerOf put ≡ answerFor bytes room → length bytes ≤ length room
     → answerOf put .bytes ≡ length bytes
 put-whole put bytes room told fits = ap (λ a. a .bytes) told ∙ simp (le-leb _ _ fits)
+
+-- So what it put, which is what is wanted, stands at the front of its room.
+pub put-front : (put : Put) (n : ℕ) (bytes wanted room after : List ℕ) → bytes ≡ wanted → length bytes ≤ length room → n ≡ answerOf put .bytes
+    → answerOf put ≡ answerFor bytes room → after ≡ written bytes room → (n ≡ length wanted) × (after ≡ wanted ++ drop (length wanted) room)
+put-front put n bytes wanted room after is fits count told left = (
+  count ∙ put-whole put bytes room told fits ∙ ap length is,
+  left ∙ with-room bytes room fits ∙ ap (λ l. l ++ drop (length l) room) is,
+)

@@ -1,4 +1,5 @@
--- What the list program says: 01, the end of "Examples on each side of a line".
+-- What the programs say: 01, the end of "Examples on each side of a line", and the line of a refusal (02, Q-1).
 pub mod Kit
 pub mod Text
 pub mod Answer
+pub mod Refusal

@@ -1,27 +1,12 @@
 -- The text that the list program prints, as bytes.
-use Prim.Native.Nat.{ℕ, zero, suc, _+_, _*_, _/_, _%_}
-use Prim.Native.Char.{code}
-use Prim.Native.String.{String, [] as none, _∷_ as _then_}
+use Prim.Native.Nat.{ℕ, zero, suc, _+_, _*_, _/_}
 use mathlib.Core.List.{List, [], _∷_, _++_}
 use mathlib.Core.Bool.{cond}
 use lib.ListN.{length}
-use lib.Dec.{ltb, eqb}
+use lib.Dec.{eqb}
 use Rattle.words.specs.BigEndian.{byteAt, wordAt}
+use Rattle.words.specs.Text.{ascii, decimal}
 use Rattle.listing.specs.declared.Fields.{Fields}
-
--- A text as the bytes of its characters.
-abbrev pub ascii : String → List ℕ
-ascii none = []
-ascii (c then s) = code c ∷ ascii s
-
--- A number in decimal without leading zeros, in at most so many digits.
-unfoldable pub decimalIn : ℕ → ℕ → List ℕ
-decimalIn zero n = []
-decimalIn (suc most) n = cond (ltb n 10) [] (decimalIn most (n / 10)) ++ ((48 + n % 10) ∷ [])
-
--- Ten digits hold every number of 32 bits.
-abbrev pub decimal : ℕ → List ℕ
-decimal n = decimalIn 10 n
 
 -- A field that is a number, and the byte behind it: a blank or a line feed.
 abbrev pub ended : ℕ → ℕ → List ℕ
@@ -78,7 +63,3 @@ longestLine = 25
 
 abbrev pub textRoom : ℕ → ℕ
 textRoom bytes = length headerLine + bytes / recordLength * longestLine
-
--- "Input above 4,096 bytes prints only `refused 20`." The line names the code that refused a run.
-unfoldable pub refusalLine : ℕ → List ℕ
-refusalLine code = ascii "refused " ++ ended code lineFeed

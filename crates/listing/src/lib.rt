@@ -1,14 +1,20 @@
-// What the list program says: the kit's own list, and a report as text. That is its header and a line for each record, or one line for a run that was
-// refused.
-ghost use Prim.Native.Nat.{_+_, _/_, _%_, _≤_, _<_};
+// What the programs say: the kit's own list; a report as text, that is its header and a line for each record; and the line of a refusal.
+ghost use Prim.Native.Nat.{_+_, _/_, _≤_, _<_};
 ghost use mathlib.Core.Path.{_≡_};
 ghost use lib.ListN.{length};
 ghost use lib.Dec.{leb};
 ghost use lib.Seq.{sets};
 ghost use Rattle.words.specs.BigEndian.{written};
 ghost use Rattle.listing.specs.Kit.{kitBytes};
-ghost use Rattle.listing.specs.Text.{decimal, ended, nameOf, recordLength, fieldsAt, lineOf, linesOf, reportText, textRoom, refusalLine};
+ghost use Rattle.listing.specs.Text.{ended, nameOf, recordLength, fieldsAt, lineOf, linesOf, reportText, textRoom};
 ghost use Rattle.listing.specs.Answer.{answerOf, answerFor};
+
+mod refusals;
+
+pub use refusals::Numbered;
+pub use refusals::Output;
+pub use refusals::put_outcome;
+pub use refusals::put_refusal;
 
 // The bytes of the header, and of the longest line.
 const HEADER: usize = 17;
@@ -72,48 +78,13 @@ pub fn kit_list() -> [u8; 48]
     list
 }
 
-// How many digits a number has.
-fn places(value: u32) -> usize
-    ensures { λ r. ⌜ r ≡ length (decimal value) ⌝ }
-{
-    if value < 10 {
-        return 1;
-    }
-    places(value / 10) + 1
-}
-
-// Puts a text into a room, from a place on, and says which place comes next.
-fn put_text(room: &mut [u8], at: usize, text: &[u8]) -> usize
-    requires { ⌜ at + length (now text) ≤ length (now room) ⌝ }
-    ensures { λ r. ⌜ r ≡ at + length (now (text .entry)) ⌝ }
-    ensures { λ r. ⌜ now (room .exit) ≡ sets (now (room .entry)) at (now (text .entry)) ⌝ }
-{
-    let mut i = 0;
-    while i < text.len() {
-        room[at + i] = text[i];
-        i += 1;
-    }
-    at + i
-}
-
-fn digit(value: u32) -> u8
-    ensures { λ r. ⌜ r ≡ 48 + value % 10 ⌝ }
-{
-    48 + (value % 10) as u8
-}
-
 // Puts a number and a last byte behind it, from a place on, and says which place comes next.
 fn put_field(room: &mut [u8], at: usize, value: u32, last: u8) -> usize
     requires { ⌜ at + length (ended value last) ≤ length (now room) ⌝ }
     ensures { λ r. ⌜ r ≡ at + length (ended value last) ⌝ }
     ensures { λ r. ⌜ now (room .exit) ≡ sets (now (room .entry)) at (ended value last) ⌝ }
 {
-    if value < 10 {
-        room[at] = digit(value);
-        room[at + 1] = last;
-        return at + 2;
-    }
-    let next = put_field(room, at, value / 10, digit(value));
+    let next = words::put_decimal(room, at, value);
     room[next] = last;
     next + 1
 }
@@ -128,7 +99,7 @@ fn name_length(sender: u8) -> usize
     if sender == walk::PUPIL {
         return 6;
     }
-    places(sender as u32) + 1
+    words::places(sender as u32) + 1
 }
 
 // Puts a sender's name and a blank behind it, from a place on, and says which place comes next.
@@ -138,10 +109,10 @@ fn put_name(room: &mut [u8], at: usize, sender: u8) -> usize
     ensures { λ r. ⌜ now (room .exit) ≡ sets (now (room .entry)) at (nameOf sender) ⌝ }
 {
     if sender == walk::KIT {
-        return put_text(room, at, b"kit ");
+        return words::put_at(room, at, b"kit ");
     }
     if sender == walk::PUPIL {
-        return put_text(room, at, b"pupil ");
+        return words::put_at(room, at, b"pupil ");
     }
     put_field(room, at, sender as u32, BLANK)
 }
@@ -169,9 +140,9 @@ fn line_length(fields: Fields) -> usize
     ensures { λ r. ⌜ r ≡ length (lineOf fields) ⌝ }
 {
     name_length(fields.sender)
-        + places(fields.number)
-        + places(fields.code)
-        + places(fields.par)
+        + words::places(fields.number)
+        + words::places(fields.code)
+        + words::places(fields.par)
         + 3
 }
 
@@ -227,18 +198,6 @@ pub fn put_report(room: &mut [u8], records: &[u8]) -> Put
     if !fits(records, room.len()) {
         return Put::NoRoom;
     }
-    let at = put_text(room, 0, b"from no code par\n");
+    let at = words::put_at(room, 0, b"from no code par\n");
     Put::Done(put_lines(room, at, records))
-}
-
-// Puts the line that stands for a whole report where the run was refused.
-pub fn put_refusal(room: &mut [u8], code: u8) -> Put
-    ensures { λ r. ⌜ answerOf r ≡ answerFor (refusalLine code) (now (room .entry)) ⌝ }
-    ensures { λ r. ⌜ now (room .exit) ≡ written (refusalLine code) (now (room .entry)) ⌝ }
-{
-    if room.len() < places(code as u32) + 9 {
-        return Put::NoRoom;
-    }
-    let at = put_text(room, 0, b"refused ");
-    Put::Done(put_field(room, at, code as u32, LINE_FEED))
 }

@@ -6,6 +6,8 @@ use super::lists;
 use super::output;
 use super::script;
 use super::seconds;
+use super::texts;
+use super::texts::Way;
 use bench::Bench;
 
 // What a lent room holds at first, and the longest one whose length is one byte.
@@ -74,6 +76,10 @@ pub fn item(state: State, s: &[u8], out: &mut [u8]) -> State {
         7 => commands::read(state, s, out),
         8 => seconds::pass(state, s, out),
         9 => commands::carry_out_decoded(state, s, out),
+        10 => texts::translate(state, s, out, Way::ToList),
+        11 => texts::translate(state, s, out, Way::ToText),
+        12 => texts::run(state, s, out),
+        13 => texts::line(state, s, out),
         _ => state.bad(out),
     }
 }

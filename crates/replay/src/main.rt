@@ -6,8 +6,10 @@ mod items;
 mod lists;
 mod names;
 mod output;
+mod rooms;
 mod script;
 mod seconds;
+mod texts;
 
 use items::State;
 

@@ -92,3 +92,10 @@ pub fn hex(out: &mut [u8], used: usize, s: &[u8]) -> usize {
 pub fn end(out: &mut [u8], used: usize) -> usize {
     byte(out, used, b'\n')
 }
+
+// A line of a word and bytes in hex.
+pub fn bytes_line(out: &mut [u8], used: usize, word: &[u8], s: &[u8]) -> usize {
+    let used = text(out, used, word);
+    let used = hex(out, used, s);
+    end(out, used)
+}

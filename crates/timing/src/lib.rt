@@ -4,6 +4,7 @@ use bench::Bench;
 use bench::Status;
 use frame::Frame;
 use store::Handed;
+use text::Translated;
 use wire::Command;
 
 // The commands that are read or written in turn, and how far apart they lie.
@@ -316,4 +317,36 @@ pub extern "C" fn timing_seconds(list: &[u8], room: &mut [u8], seconds: u32, tim
     let ran = Bench::fresh().run(&list[..0], list, room);
     let start = ran.bench;
     passing_again(start, seconds, times)
+}
+
+fn with_translated(sum: u64, translated: Translated) -> u64 {
+    let found = text::finding_of(translated);
+    let told = found.told;
+    let code = mixed(mixed(sum, told.code as u64), told.par as u64);
+    let place = mixed(code, found.number as u64);
+    mixed(place, text::bytes_of(translated) as u64)
+}
+
+// Assembles a text so many times, to the same place of the room.
+#[no_mangle]
+pub extern "C" fn timing_assemble(typed: &[u8], room: &mut [u8], times: u32) -> u64 {
+    let mut sum: u64 = 0;
+    let mut i: u32 = 0;
+    while i < times {
+        sum = with_translated(sum, text::assemble(typed, room));
+        i += 1;
+    }
+    sum
+}
+
+// Lists a raw list so many times, to the same place of the room.
+#[no_mangle]
+pub extern "C" fn timing_list(raw: &[u8], room: &mut [u8], times: u32) -> u64 {
+    let mut sum: u64 = 0;
+    let mut i: u32 = 0;
+    while i < times {
+        sum = with_translated(sum, text::list_text(raw, room));
+        i += 1;
+    }
+    sum
 }

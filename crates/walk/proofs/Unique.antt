@@ -6,7 +6,7 @@ use denote.Ref.{RefT}
 use Rattle.walk.specs.Shown.{shownOf, offsetOf, sliceOf, Placed}
 
 -- Two parts with the same place point to the same byte.
-one-place : (slice a b : RefT (List ℕ)) (offset : ℕ) → Placed slice a offset → Placed slice b offset → a .ptr ≡ b .ptr
+pub one-place : (slice a b : RefT (List ℕ)) (offset : ℕ) → Placed slice a offset → Placed slice b offset → a .ptr ≡ b .ptr
 one-place slice a b offset p q = λ i. ((p .block ∙ sym (q .block)) i, (p .start ∙ sym (q .start)) i)
 
 -- What `shown` promises of its answer.

@@ -15,4 +15,4 @@ pub mod FirstOf
 pub mod Lengths
 pub mod Sums
 mod Singles
-mod Writes
+pub mod Writes

@@ -60,7 +60,7 @@ abbrev pub Held : Command → Type 0
 Held c = HeldKind (c .kind)
 
 -- The parts of such a kind fit the fields of its layout.
-held-within : (k : Kind) → HeldKind k → Within (rowOf (partsOf k .form) .layout) (partsOf k .first) (partsOf k .second)
+pub held-within : (k : Kind) → HeldKind k → Within (rowOf (partsOf k .form) .layout) (partsOf k .first) (partsOf k .second)
 held-within (Kind.ImgPwr mode) h = (h, refl)
 held-within (Kind.ImgRegion x y) h = h
 held-within (Kind.ImgTrack time interval) h = h
@@ -78,7 +78,7 @@ held-within Kind.Stop h = (refl, refl)
 held-within Kind.Clear h = (refl, refl)
 
 -- And put together they are that kind.
-held-made : (k : Kind) → HeldKind k → kindOf (partsOf k .form) (partsOf k .first) (partsOf k .second) ≡ k
+pub held-made : (k : Kind) → HeldKind k → kindOf (partsOf k .form) (partsOf k .first) (partsOf k .second) ≡ k
 held-made (Kind.ImgPwr mode) h = ap Kind.ImgPwr (mod-eq-of-lt h)
 held-made (Kind.ImgRegion x y) h = rw (mod-eq-of-lt (h .0), mod-eq-of-lt (h .1))
 held-made (Kind.ImgTrack time interval) h = rw (mod-eq-of-lt (h .0), mod-eq-of-lt (h .1))
@@ -96,7 +96,7 @@ held-made Kind.Stop h = refl
 held-made Kind.Clear h = refl
 
 -- Every kind that is put together is one that a program can hold.
-kind-held : (form : Form) (first second : ℕ) → HeldKind (kindOf form first second)
+pub kind-held : (form : Form) (first second : ℕ) → HeldKind (kindOf form first second)
 kind-held Form.ImgPwr first second = omega arith
 kind-held Form.ImgRegion first second = (omega arith, omega arith)
 kind-held Form.ImgTrack first second = (omega arith, omega arith)

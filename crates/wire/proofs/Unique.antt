@@ -18,7 +18,7 @@ use Rattle.wire.specs.Steps.{Reached, reachOf}
 use Rattle.wire.proofs.Answers.{refusal-code}
 
 -- The refusal with a code and a parameter; for a code that no refusal has, any will do.
-abbrev refusalOf : Told → Refusal
+abbrev pub refusalOf : Told → Refusal
 refusalOf t =
     cond (eqb (t .code) 1) Refusal.TooFewBytes
     (cond (eqb (t .code) 2) Refusal.LengthOutOfBounds
@@ -31,7 +31,7 @@ refusalOf t =
     (cond (eqb (t .code) 9) Refusal.FlagForbidden
     (cond (eqb (t .code) 10) Refusal.FlagMissing Refusal.NoRoom)))))))))
 
-refusal-back : (r : Refusal) → refusalOf (toldOf r) ≡ r
+pub refusal-back : (r : Refusal) → refusalOf (toldOf r) ≡ r
 refusal-back Refusal.TooFewBytes = refl
 refusal-back Refusal.LengthOutOfBounds = refl
 refusal-back Refusal.CutOff = refl

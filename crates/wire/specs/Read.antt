@@ -108,6 +108,10 @@ wholeChecks s words =
 abbrev pub commandIn : List ℕ → ℕ → Command
 commandIn s words = commandAs (formIn (ruleOf (opcodeOf s))) (flagOf s) (wordAt s 4) (thirdWord s words)
 
+-- The command at the front of some bytes.
+abbrev pub said : List ℕ → Command
+said s = commandIn s (lengthOf s)
+
 -- Rows 1 to 10 on the bytes left, in their order.
 abbrev pub readChecks : List ℕ → List Check
 readChecks s = reachChecks s ++ wholeChecks s (lengthOf s)

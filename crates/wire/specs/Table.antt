@@ -1,9 +1,11 @@
--- 01, "A command on the wire": the table, a line to a row, in 01's order. The opcode, length, layout, flag rule and limits of a command stand here
--- alone. Kind says which arguments each command has; Read and Write how each layout puts them into words; Judge that a goal may also be minus zero.
+-- 01, "A command on the wire": the table, a line to a row, in 01's order. The opcode, length, layout, flag rule, limits and name of a command stand
+-- here alone. Kind says which arguments each command has; Read and Write how each layout puts them into words; Judge that a goal may also be minus
+-- zero.
 use Prim.Native.Nat.{ℕ}
 use mathlib.Core.List.{List, [], _∷_}
 use mathlib.Core.Bool.{cond}
 use lib.Dec.{eqb}
+use Rattle.words.specs.Text.{ascii}
 use Rattle.wire.specs.declared.table.Form.{Form}
 use Rattle.wire.specs.declared.table.Layout.{Layout}
 use Rattle.wire.specs.declared.table.FlagRule.{FlagRule}
@@ -31,6 +33,32 @@ rowOf Form.Run = rowWith 0x7f03 3 Layout.Byte FlagRule.Either 0 7 0 0
 rowOf Form.Wait = rowWith 0x7f04 3 Layout.Half FlagRule.Always 1 600 0 0
 rowOf Form.Stop = rowWith 0x7f05 2 Layout.Bare FlagRule.Never 0 0 0 0
 rowOf Form.Clear = rowWith 0x7f06 2 Layout.Bare FlagRule.Never 0 0 0 0
+
+-- "the table's name in lower case", as a typed list has it (Q-1).
+unfoldable pub nameOf : Form → List ℕ
+nameOf Form.ImgPwr = ascii "img_pwr"
+nameOf Form.ImgRegion = ascii "img_region"
+nameOf Form.ImgTrack = ascii "img_track"
+nameOf Form.TrkAlg = ascii "trk_alg"
+nameOf Form.TrkLoop = ascii "trk_loop"
+nameOf Form.ImgImage = ascii "img_image"
+nameOf Form.TrkGoal = ascii "trk_goal"
+nameOf Form.TlmFlush = ascii "tlm_flush"
+nameOf Form.FlushAuto = ascii "flush_auto"
+nameOf Form.Open = ascii "open"
+nameOf Form.Close = ascii "close"
+nameOf Form.Run = ascii "run"
+nameOf Form.Wait = ascii "wait"
+nameOf Form.Stop = ascii "stop"
+nameOf Form.Clear = ascii "clear"
+
+-- How many arguments a layout has.
+abbrev pub argumentsOf : Layout → ℕ
+argumentsOf Layout.Bare = 0
+argumentsOf Layout.Byte = 1
+argumentsOf Layout.Half = 1
+argumentsOf Layout.Halves = 2
+argumentsOf Layout.Singles = 2
 
 -- The forms in the table's order: those of the guide (opcodes 0x01xx), then those of 01 (0x7fxx).
 abbrev pub guideForms : List Form

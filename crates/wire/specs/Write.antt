@@ -48,6 +48,11 @@ unfoldable pub commandBytes : Command → List ℕ
 unfolding closed
 commandBytes c = closed (wordsOf c)
 
+-- Commands as bytes, one after another.
+unfoldable pub listBytes : List Command → List ℕ
+listBytes [] = []
+listBytes (c ∷ cs) = commandBytes c ++ listBytes cs
+
 -- What a writer answers: a code with its parameter, and how many bytes were written.
 pub record Wrote : Type 0 where
   pub told : Told

@@ -16,6 +16,7 @@ pub use judging::Refusal;
 pub use judging::Told;
 pub use judging::first_bad;
 pub use judging::judge;
+pub use judging::judge_by;
 pub use judging::told_of;
 pub use kinds::Command;
 pub use kinds::Kind;

@@ -1,2 +1,3 @@
--- Numbers as bytes, highest byte first.
+-- Numbers as bytes, highest byte first; text as bytes.
 pub mod BigEndian
+pub mod Text

@@ -1,8 +1,14 @@
-// Big-endian numbers of 16 and 32 bits in byte slices: total readers, and writers into the front of a lent part.
+// Big-endian numbers of 16 and 32 bits in byte slices: total readers, and writers into the front of a lent part; and text, from any place of it on.
 // A reader takes what lies past the end for 0. A writer that has too little room leaves it untouched and says so.
 ghost use Prim.Native.Nat.{_+_, _*_};
 ghost use mathlib.Core.Path.{_≡_};
 ghost use Rattle.words.specs.BigEndian.{byteAt, halfAt, wordAt, wordBytes, bytesOf, hasRoom, written};
+
+mod putting;
+
+pub use putting::places;
+pub use putting::put_at;
+pub use putting::put_decimal;
 
 // The bytes of a 32-bit number.
 pub const WORD: usize = 4;

@@ -1,5 +1,6 @@
 //! The numbered answers of the rules, in the order in which they are tried,
-//! and the refusal that carries one of them with its parameter byte.
+//! the refusal that carries one of them with its parameter byte, and the place
+//! in a text or a list where it was found.
 
 pub const ACCEPTED: u8 = 0;
 pub const TOO_SHORT: u8 = 1;
@@ -26,10 +27,16 @@ pub const REPORT_ROOM_TOO_SMALL: u8 = 21;
 pub const NOT_A_FRAME: u8 = 22;
 pub const BAD_FIELD: u8 = 23;
 pub const TOO_LITTLE_ROOM: u8 = 24;
+pub const UNKNOWN_NAME: u8 = 30;
+pub const MALFORMED_ARGUMENT: u8 = 31;
+pub const WRONG_NUMBER_OF_ARGUMENTS: u8 = 32;
+pub const GOAL_NOT_SAID: u8 = 33;
 
-/// The highest code a replay can show. 27 is left out on purpose: a state
+/// Whether a replay can show the code. 27 is left out on purpose: a state
 /// reached from a fresh bench is always sound, and replay reaches no other.
-pub const HIGHEST_CODE: u8 = TOO_LITTLE_ROOM;
+pub fn can_be_shown(code: u8) -> bool {
+    matches!(code, ACCEPTED..=TOO_LITTLE_ROOM | UNKNOWN_NAME..=GOAL_NOT_SAID)
+}
 
 /// Why something was not taken; the parameter is 0 unless the code is 8.
 #[derive(Clone, Copy, Debug, PartialEq, Eq)]
@@ -48,6 +55,29 @@ impl Refusal {
         Refusal {
             code: OUT_OF_RANGE,
             parameter: position,
+        }
+    }
+}
+
+/// A refusal and the number, from 1, of the line or the command at which it was
+/// found; 0 where it is about the whole.
+#[derive(Clone, Copy, Debug, PartialEq, Eq)]
+pub struct Placed {
+    pub place: u32,
+    pub refusal: Refusal,
+}
+
+impl From<Refusal> for Placed {
+    fn from(refusal: Refusal) -> Self {
+        Placed { place: 0, refusal }
+    }
+}
+
+impl Refusal {
+    pub fn at(self, place: u32) -> Placed {
+        Placed {
+            place,
+            refusal: self,
         }
     }
 }

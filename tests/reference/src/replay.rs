@@ -2,15 +2,17 @@
 //! answer out. An item that is cut off changes nothing before it ends the replay.
 
 use crate::bench::Bench;
-use crate::codes::{code_and_parameter, Refusal};
+use crate::codes::{code_and_parameter, Placed, Refusal};
 use crate::command::{Command, COMMANDS, TABLE};
 use crate::frame::{Frame, FRAME_BYTES};
 use crate::macros::Entry;
 use crate::run::{run_lists, shown, Counts, RECORD_BYTES};
+use crate::text::{assemble, line_shown, list_text};
+use crate::typed::run_typed;
 use crate::wire::{read_command, write_command};
 
 pub const LONGEST_SCRIPT: usize = 65_536;
-pub const LARGEST_REPORT_ROOM: usize = 9_000;
+pub const LARGEST_ROOM: usize = 9_000;
 /// What a room holds before anything is written into it.
 pub const ROOM_FILL: u8 = 0xaa;
 /// Room for a decoded command: the longest of the table just fits.
@@ -26,6 +28,10 @@ pub const FRAME: u8 = 0x06;
 pub const READ: u8 = 0x07;
 pub const PASSED: u8 = 0x08;
 pub const DECODED: u8 = 0x09;
+pub const ASSEMBLE: u8 = 0x0a;
+pub const LIST: u8 = 0x0b;
+pub const TYPED: u8 = 0x0c;
+pub const LINE: u8 = 0x0d;
 
 /// What is left of a script; each taking is none where the script is cut off.
 pub struct Script<'a> {
@@ -54,6 +60,12 @@ impl<'a> Script<'a> {
 
     fn word(&mut self) -> Option<u32> {
         Some((self.half()? as u32) << 16 | self.half()? as u32)
+    }
+
+    /// A room as long as the script says, up to the limit.
+    fn room(&mut self) -> Option<Vec<u8>> {
+        let length = self.half()?.min(LARGEST_ROOM);
+        Some(vec![ROOM_FILL; length])
     }
 
     /// A part whose length stands before it in one byte.
@@ -113,6 +125,10 @@ impl Replay {
             READ => Some(read_line(script.byte()?.into(), script.short_part()?)),
             PASSED => Some(self.passed(script.half()?)),
             DECODED => self.decoded(script),
+            ASSEMBLE => written_lines("assembled", assemble, script),
+            LIST => written_lines("listed", list_text, script),
+            TYPED => self.typed(script),
+            LINE => line_line(script),
             _ => None,
         }
     }
@@ -131,10 +147,20 @@ impl Replay {
     }
 
     fn run(&mut self, script: &mut Script) -> Option<String> {
-        let mut room = vec![ROOM_FILL; script.half()?.min(LARGEST_REPORT_ROOM)];
+        let mut room = script.room()?;
         let (kit, pupil) = (script.long_part()?, script.long_part()?);
         let answer = run_lists(&mut self.bench, kit, pupil, &mut room);
-        Some(run_lines(&answer, &room))
+        let (code, _) = code_and_parameter(&answer);
+        let counts = answer.unwrap_or_default();
+        Some(report_lines(&format!("run {code}"), counts, &room))
+    }
+
+    fn typed(&mut self, script: &mut Script) -> Option<String> {
+        let mut room = script.room()?;
+        let (kit, text) = (script.long_part()?, script.long_part()?);
+        let answer = run_typed(&mut self.bench, kit, text, &mut room);
+        let start = format!("typed {}", placed_words(&answer));
+        Some(report_lines(&start, answer.unwrap_or_default(), &room))
     }
 
     fn passed(&mut self, seconds: usize) -> String {
@@ -174,26 +200,62 @@ fn second_line(handed: &Entry) -> String {
     line + "\n"
 }
 
-fn run_lines(answer: &Result<Counts, Refusal>, room: &[u8]) -> String {
-    let (code, _) = code_and_parameter(answer);
-    let counts = answer.unwrap_or_default();
-    let (records, rest) = room.split_at(RECORD_BYTES * (counts.kit + counts.pupil));
-    let mut lines = format!("run {code} {} {}\n", counts.kit, counts.pupil);
-    for record in records.chunks_exact(RECORD_BYTES) {
+/// The lines of a run, whose first begins with these words.
+fn report_lines(start: &str, counts: Counts, room: &[u8]) -> String {
+    let records = RECORD_BYTES * (counts.kit + counts.pupil);
+    let mut lines = format!("{start} {} {}\n", counts.kit, counts.pupil);
+    for record in room[..records].chunks_exact(RECORD_BYTES) {
         lines += &format!("record {}\n", hex(record));
     }
+    lines + &rest_line(room, records)
+}
+
+/// Whether the bytes of a room behind what was written are as they were.
+fn rest_line(room: &[u8], written: usize) -> String {
+    let rest = &room[written..];
     match rest.iter().position(|byte| *byte != ROOM_FILL) {
-        None => lines + "rest same\n",
-        Some(offset) => lines + &format!("rest {}\n", records.len() + offset),
+        None => "rest same\n".into(),
+        Some(offset) => format!("rest {}\n", written + offset),
     }
+}
+
+/// Code, place and parameter of any answer, acceptance being three zeros.
+fn placed_words<T>(answer: &Result<T, Placed>) -> String {
+    match answer {
+        Ok(_) => "0 0 0".into(),
+        Err(Placed { place, refusal }) => format!("{} {place} {}", refusal.code, refusal.parameter),
+    }
+}
+
+/// The lines of a writer that takes a whole text or list.
+fn written_lines(
+    name: &str,
+    writer: fn(&[u8], &mut [u8]) -> Result<usize, Placed>,
+    script: &mut Script,
+) -> Option<String> {
+    let mut room = script.room()?;
+    let answer = writer(script.long_part()?, &mut room);
+    let words = placed_words(&answer);
+    let written = answer.unwrap_or_default();
+    let first = with_bytes(&format!("{name} {words}"), &room[..written]);
+    Some(first + &rest_line(&room, written))
+}
+
+/// A line of words and then bytes in hex, without a blank where there are none.
+fn with_bytes(words: &str, bytes: &[u8]) -> String {
+    let blank = if bytes.is_empty() { "" } else { " " };
+    format!("{words}{blank}{}\n", hex(bytes))
 }
 
 fn shown_line(script: &mut Script) -> Option<String> {
     let (kit, pupil) = (script.long_part()?, script.long_part()?);
     let (sender, number) = (script.byte()?, script.word()?);
-    let bytes = hex(shown(kit, pupil, sender, number));
-    let blank = if bytes.is_empty() { "" } else { " " };
-    Some(format!("shown{blank}{bytes}\n"))
+    Some(with_bytes("shown", shown(kit, pupil, sender, number)))
+}
+
+fn line_line(script: &mut Script) -> Option<String> {
+    let (text, number) = (script.long_part()?, script.word()?);
+    Some(with_bytes("line", line_shown(text, number)))
 }
 
 fn frame_line(room: usize, bytes: &[u8]) -> String {

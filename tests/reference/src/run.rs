@@ -85,15 +85,19 @@ pub fn run_lists(
 ) -> Result<Counts, Refusal> {
     refuse_if(either_too_long(kit, pupil), LIST_TOO_LONG)?;
     refuse_if(room.len() < SMALLEST_REPORT_ROOM, REPORT_ROOM_TOO_SMALL)?;
-    let records = records_of(bench, kit, pupil);
+    Ok(report(&records_of(bench, kit, pupil), room))
+}
+
+/// Writes the records one after another into the room, which has enough of it.
+pub fn report(records: &[Record], room: &mut [u8]) -> Counts {
     for (record, place) in records.iter().zip(room.chunks_exact_mut(RECORD_BYTES)) {
         place.copy_from_slice(&record.bytes());
     }
     let count = |sender| records.iter().filter(|one| one.sender == sender).count();
-    Ok(Counts {
+    Counts {
         kit: count(KIT),
         pupil: count(PUPIL),
-    })
+    }
 }
 
 fn either_too_long(kit: &[u8], pupil: &[u8]) -> bool {

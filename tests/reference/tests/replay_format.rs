@@ -3,7 +3,8 @@
 
 use reference::command::Kind;
 use reference::comparison::items::{
-    append, command, decoded, frame, fresh, now, passed, raw, read, run, second, shown, status,
+    append, assemble, command, decoded, frame, fresh, line, list_text, now, passed, raw, read, run,
+    second, shown, status, typed,
 };
 use reference::replay::transcript;
 
@@ -104,6 +105,67 @@ fn a_decoded_command() {
 }
 
 #[test]
+fn a_text_assembled() {
+    let items = [
+        assemble(9, b"\nstop"),
+        assemble(7, b"stop"),
+        assemble(9, b"\nrun 8"),
+        assemble(9, b"\n"),
+    ];
+    let expected = "assembled 0 0 0 7f0500027f050002\nrest same\n\
+                    assembled 24 0 0\nrest same\n\
+                    assembled 8 2 1\nrest same\n\
+                    assembled 0 0 0\nrest same\n";
+    assert_eq!(answer(&items), expected);
+}
+
+#[test]
+fn a_list_as_text() {
+    let flush = raw(false, Kind::TlmFlush, [0; 2]);
+    let unsaid = raw(false, Kind::TrkGoal, [0, 0x8000_0000]);
+    let bad = raw(false, Kind::ImgImage, [5, 0]);
+    let items = [
+        list_text(10, &flush),
+        list_text(9, &flush),
+        list_text(0, &[&flush[..], &unsaid].concat()),
+        list_text(0, &[&flush[..], &bad].concat()),
+        list_text(0, &[]),
+    ];
+    let expected = "listed 0 0 0 746c6d5f666c7573680a\nrest same\n\
+                    listed 24 0 0\nrest same\n\
+                    listed 33 2 0\nrest same\n\
+                    listed 8 2 2\nrest same\n\
+                    listed 0 0 0\nrest same\n";
+    assert_eq!(answer(&items), expected);
+}
+
+#[test]
+fn a_typed_run() {
+    let flush = raw(false, Kind::TlmFlush, [0; 2]);
+    let items = [
+        typed(8192, &flush, b"\ntlm_flush\n#\nclose\n"),
+        typed(8192, &flush, b"stop\nimg_image 5 0\n"),
+        typed(8191, &flush, b"stop\n"),
+        status(),
+    ];
+    let expected = "typed 0 0 0 1 2\nrecord 0100000000000001\nrecord 0200000000000002\n\
+                    record 020b000000000004\nrest same\n\
+                    typed 8 2 2 0 0\nrest same\ntyped 21 0 0 0 0\nrest same\n\
+                    status 0000000100000001000000000000000000000000000000000002ffff00000000\n";
+    assert_eq!(answer(&items), expected);
+}
+
+#[test]
+fn a_line_shown() {
+    let text = b"stop\n\nrun";
+    let items = [0, 1, 2, 3, 4, u32::MAX].map(|number| line(text, number));
+    assert_eq!(
+        answer(&items),
+        "line\nline 73746f70\nline\nline 72756e\nline\nline\n"
+    );
+}
+
+#[test]
 fn scripts_that_end_badly() {
     assert_eq!(answer(&[]), "");
     assert_eq!(
@@ -111,6 +173,7 @@ fn scripts_that_end_badly() {
         "second 0 none\nbad script\n"
     );
     assert_eq!(answer(&[vec![10], second()]), "bad script\n");
+    assert_eq!(answer(&[vec![14], second()]), "bad script\n");
     assert_eq!(transcript(&vec![4; 65_536]), "");
     assert_eq!(transcript(&vec![4; 65_537]), "too long\n");
 }

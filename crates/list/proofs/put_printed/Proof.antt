@@ -1,32 +1,21 @@
 -- `put_printed` meets its contract: the run's code says which text is printed (`Printed`), the writer of that text was called, and it had room.
 use Prim.Native.Nat.{ℕ, _+_, _*_, _≤_}
 use mathlib.Core.Path.{_≡_, sym, ap, _∙_}
-use mathlib.Core.List.{List, _++_}
+use mathlib.Core.List.{List}
 use native.Mathlib.Omega.{arith}
-use lib.ListN.{length, take, drop}
+use lib.ListN.{length, take}
 use lib.Seq.{length-take-le}
 use borrow.Author.Needs.{needs}
-use Rattle.words.specs.BigEndian.{written}
-use Rattle.words.proofs.Laws.{with-room}
 use Rattle.bench.specs.declared.Bench.{Bench}
 use Rattle.bench.specs.Run.{begunCode, runOf}
-use Rattle.listing.specs.declared.Put.{Put}
-use Rattle.listing.specs.Answer.{answerOf, answerFor}
-use Rattle.listing.specs.Text.{lineFeed, reportText, refusalLine}
-use Rattle.listing.proofs.Decimal.{digits-few, length-ended}
-use Rattle.listing.proofs.Lines.{length-refusal, put-whole}
-use Rattle.list.specs.Printed.{printed}
+use Rattle.listing.specs.declared.refusals.Numbered.{Numbered}
+use Rattle.listing.specs.Text.{reportText}
+use Rattle.listing.specs.Refusal.{refusalLine}
+use Rattle.listing.proofs.Lines.{put-front}
+use Rattle.list.specs.Printed.{refusal, printed}
 use Rattle.list.proofs.Printed.{prints-refusal, prints-report, records-long, records-fit, records-front}
 use Rattle.list.proofs.put_printed.Statement.{statement}
 use Rattle.list.proofs.put_printed.Tie as tie
-
--- What a writer that has room put is the text that is wanted.
-whole : (put : Put) (n : ℕ) (bytes wanted text after : List ℕ) → bytes ≡ wanted → length bytes ≤ length text → n ≡ answerOf put .bytes
-    → answerOf put ≡ answerFor bytes text → after ≡ written bytes text → (n ≡ length wanted) × (after ≡ wanted ++ drop (length wanted) text)
-whole put n bytes wanted text after is fits count told left = (
-  count ∙ put-whole put bytes text told fits ∙ ap length is,
-  left ∙ with-room bytes text fits ∙ ap (λ l. l ++ drop (length l) text) is,
-)
 
 -- What is known of the run behind the code: its bench, its lists and its room, and what it answered and left.
 abbrev start : tie.After-code-of → tie.Start
@@ -50,11 +39,11 @@ room-long c = sym (c .before .before .before .before .before .before .report-roo
 coded : (c : tie.After-code-of) → c .code-of .result ≡ runOf (bench c) (kit c) (pupil c) (room c) .code
 coded c = c .code-of .ensures ∙ ap (λ t. t .code) (c .before .before .run .ensures .0)
 
-refusal : (c : tie.After-code-of) → (c .code-of .result ≡ 0 → ⊥) → refusalLine (c .code-of .result) ≡ printed (pupil c)
-refusal c refused =
+refuses : (c : tie.After-code-of) → (c .code-of .result ≡ 0 → ⊥) → refusal (c .code-of .result) ≡ printed (pupil c)
+refuses c refused =
     let fresh = c .before .before .before .before .before .fresh .ensures in
     let own = c .before .before .before .before .before .before .before .kit-list .ensures in
-    ap refusalLine (coded c) ∙ prints-refusal (bench c) (kit c) (pupil c) (room c) fresh own (room-long c) (λ none. refused (coded c ∙ none))
+    ap refusal (coded c) ∙ prints-refusal (bench c) (kit c) (pupil c) (room c) fresh own (room-long c) (λ none. refused (coded c ∙ none))
 
 -- Where the run was carried out, its records are those that the two counts take from the room.
 abbrev records : tie.After-code-of → List ℕ
@@ -114,6 +103,9 @@ run-requires c κs = search needs
 code-of-requires : tie.Need-code-of-requires
 code-of-requires c κs = search needs
 
+found-with-requires : tie.Need-found-with-requires
+found-with-requires c κs = search needs
+
 put-refusal-requires : tie.Need-put-refusal-requires
 put-refusal-requires c κs = search needs
 
@@ -125,14 +117,15 @@ same-length c = search needs
 
 returns : tie.Need-returns
 returns c =
-    let at = c .before .before .before .before .before .before in
+    let at = c .before .before .before .before .before .before .before in
     let put = c .before .before .before .put-refusal in
-    let code = at .code-of .result in
-    let fits : length (refusalLine code) ≤ length (start at .args .text .now) =
-    omega (arith, length-refusal code, length-ended code lineFeed, digits-few 10 code, start at .pre) in
-    let refused = c .before .before .before .before .before .if1 .taken in
-    whole (put .result) (c .bytes-of .result) (refusalLine code) (printed (pupil at)) (start at .args .text .now) (put .last .0)
-    (refusal at refused) fits (c .bytes-of .ensures) (put .ensures .0) (put .ensures .1)
+    let found = c .before .before .before .before .found-with in
+    let line = refusalLine Numbered.Lines (found .result) in
+    let text = start at .args .text .now in
+    let fits : length line ≤ length text = omega (arith, put .ensures .1 .1, start at .pre) in
+    let wanted = ap (refusalLine Numbered.Lines) (found .ensures) ∙ refuses at (c .before .before .before .before .before .before .if1 .taken) in
+    put-front (put .result) (c .bytes-of .result) line (printed (pupil at)) text (put .last .0) wanted fits (c .bytes-of .ensures) (put .ensures .0)
+    (put .ensures .1 .0)
 
 cast-end : tie.Need-cast-end
 cast-end c = search needs
@@ -169,7 +162,7 @@ returns-2 c =
     let few : length (records at) ≤ 8192 = omega (arith, taken carried, within carried, at .before .records2 .given) in
     let fits : length (reportText (records at)) ≤ length (start at .args .text .now) =
     omega (arith, put .ensures .1 .1, few, start at .pre) in
-    whole (put .result) (c .bytes-of2 .result) (reportText (records at)) (printed (pupil at)) (start at .args .text .now) (put .last .0)
+    put-front (put .result) (c .bytes-of2 .result) (reportText (records at)) (printed (pupil at)) (start at .args .text .now) (put .last .0)
     (report carried) fits (c .bytes-of2 .ensures) (put .ensures .0) (put .ensures .1 .0)
 
 pub put-printed-spec : {M : Type 1} → statement M
@@ -183,6 +176,7 @@ put-printed-spec =
     slice-aggregate-run-2
     run-requires
     code-of-requires
+    found-with-requires
     put-refusal-requires
     bytes-of-requires
     same-length

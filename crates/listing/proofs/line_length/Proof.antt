@@ -3,9 +3,11 @@ use Prim.Native.Nat.{_+_, _≤_}
 use native.Mathlib.Omega.{arith}
 use lib.ListN.{length}
 use borrow.Author.Needs.{needs}
+use Rattle.words.specs.Text.{decimal}
+use Rattle.words.proofs.Decimal.{digits-few}
 use Rattle.listing.specs.declared.Fields.{Fields}
-use Rattle.listing.specs.Text.{blank, lineFeed, nameOf, decimal}
-use Rattle.listing.proofs.Decimal.{digits-few, length-ended}
+use Rattle.listing.specs.Text.{blank, lineFeed, nameOf}
+use Rattle.listing.proofs.Decimal.{length-ended}
 use Rattle.listing.proofs.Lines.{name-few, length-line}
 use Rattle.listing.proofs.line_length.Statement.{statement}
 use Rattle.listing.proofs.line_length.Tie as tie

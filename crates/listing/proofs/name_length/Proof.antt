@@ -3,8 +3,9 @@ use mathlib.Core.Path.{sym, ap}
 use native.Mathlib.Omega.{arith}
 use lib.ListN.{length}
 use borrow.Author.Needs.{needs}
+use Rattle.words.proofs.Decimal.{digits-few}
 use Rattle.listing.specs.Text.{blank}
-use Rattle.listing.proofs.Decimal.{digits-few, length-ended}
+use Rattle.listing.proofs.Decimal.{length-ended}
 use Rattle.listing.proofs.Lines.{name-kit, name-pupil, name-other}
 use Rattle.listing.proofs.name_length.Statement.{statement}
 use Rattle.listing.proofs.name_length.Tie as tie

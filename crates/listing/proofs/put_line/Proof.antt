@@ -5,9 +5,9 @@ use mathlib.Core.List.{List, _++_}
 use native.Mathlib.Omega.{arith}
 use lib.ListN.{length, length-append}
 use borrow.Author.Needs.{needs}
+use Rattle.words.proofs.Stores.{Laid, laid-fits, laid-more}
 use Rattle.listing.specs.declared.Fields.{Fields}
 use Rattle.listing.specs.Text.{nameOf, ended, blank, lineFeed, lineOf}
-use Rattle.listing.proofs.Stores.{Laid, laid-fits, laid-more}
 use Rattle.listing.proofs.put_line.Statement.{statement}
 use Rattle.listing.proofs.put_line.Tie as tie
 

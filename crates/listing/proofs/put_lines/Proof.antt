@@ -6,9 +6,9 @@ use native.Mathlib.Omega.{arith}
 use native.Mathlib.Numerals.{add-one}
 use lib.ListN.{length}
 use borrow.Author.Needs.{needs}
+use Rattle.words.proofs.Stores.{Laid, laid-length, laid-fits, laid-more}
 use Rattle.listing.specs.Text.{lineOf, lineAt, linesTo, linesOf}
 use Rattle.listing.proofs.Lines.{lines-within}
-use Rattle.listing.proofs.Stores.{Laid, laid-length, laid-fits, laid-more}
 use Rattle.listing.proofs.put_lines.Statement.{statement}
 use Rattle.listing.proofs.put_lines.Tie as tie
 

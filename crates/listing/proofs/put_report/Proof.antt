@@ -6,9 +6,10 @@ use native.Mathlib.Omega.{arith}
 use lib.ListN.{length}
 use borrow.Author.Needs.{needs}
 use borrow.Author.Tests.{leb-true, leb-false, not-true, not-false}
+use Rattle.words.proofs.Stores.{Laid, laid-first, laid-fits, laid-more}
 use Rattle.listing.specs.Text.{headerLine, linesOf, reportText, textRoom}
 use Rattle.listing.proofs.Lines.{length-text, text-short}
-use Rattle.listing.proofs.Stores.{Laid, laid-fits, laid-more, laid-all, no-answer}
+use Rattle.listing.proofs.Stores.{laid-all, no-answer}
 use Rattle.listing.proofs.put_report.Statement.{statement}
 use Rattle.listing.proofs.put_report.Tie as tie
 
@@ -25,11 +26,14 @@ enough : (c : tie.After-shared-slice-known)
 enough c = text-short (c .before .before .args .records .now) (λ i. omega (arith, c .shared-slice-known .given i))
 
 -- The function's start, seen from behind the header.
-abbrev start : tie.After-put-text → tie.Start
+abbrev start : tie.After-put-at → tie.Start
 start c = c .before .before .before .before .before .before .before
 
-header : (c : tie.After-put-text) → Laid (start c .args .room .now) 0 headerLine (c .put-text .last .0) (c .put-text .result)
-header c = record { place = c .put-text .ensures .0; stored = c .put-text .ensures .1 }
+header : (c : tie.After-put-at) → Laid (start c .args .room .now) 0 headerLine (c .put-at .last .0) (c .put-at .result)
+header c =
+    let records = start c .args .records .now in
+    let put = c .put-at .ensures in
+    laid-first headerLine 0 (start c .args .room .now) _ _ (omega (arith, fits (c .before .before .before), length-text records)) (put .0) (put .1)
 
 fits-requires : tie.Need-fits-requires
 fits-requires c κs = search needs
@@ -41,11 +45,11 @@ returns c =
     let told = no-answer (reportText (start .records .now)) (start .room .now) short in
     (told .0, (told .1, enough (c .before .before)))
 
-slice-aggregate-put-text : tie.Need-slice-aggregate-put-text
-slice-aggregate-put-text c = search needs
+slice-aggregate-put-at : tie.Need-slice-aggregate-put-at
+slice-aggregate-put-at c = search needs
 
-put-text-requires : tie.Need-put-text-requires
-put-text-requires c κs =
+put-at-requires : tie.Need-put-at-requires
+put-at-requires c κs =
     let records = c .before .before .before .before .before .before .args .records .now in
     omega (arith, fits (c .before .before), length-text records)
 
@@ -73,8 +77,8 @@ put-report-spec =
     (tie.spec
     fits-requires
     returns
-    slice-aggregate-put-text
-    put-text-requires
+    slice-aggregate-put-at
+    put-at-requires
     put-lines-requires
     same-length
     returns-2)

@@ -1,6 +1,7 @@
-//! The random comparison of a replay program and a list program with the
-//! reference. Exits with 0 when nothing differs and every code occurred, with
-//! 1 when not, and with 2 when it was not told what to compare.
+//! The random comparison of a replay program, a list program and the programs
+//! for typed lists with the reference. Exits with 0 when nothing differs and
+//! every code occurred, with 1 when not, and with 2 when it was not told what to
+//! compare.
 
 use std::process::ExitCode;
 use std::time::Instant;
@@ -11,51 +12,81 @@ use reference::comparison::program::Program;
 use reference::comparison::rng::Rng;
 use reference::comparison::shrink::shrunk;
 use reference::comparison::tally::{first_difference, grouped, Tally};
-use reference::comparison::{fixed, random};
+use reference::comparison::{fixed, inputs, random};
 use reference::list::listing;
+use reference::programs::{assembler, lister, typed};
 use reference::replay::{hex, transcript, Replay, Script};
 use reference::run::{commands_of, LONGEST_LIST};
 
 /// Says that a difference was found and printed.
 struct Differs;
 
-/// How much was sent to the replay program and compared.
+/// How much was sent and compared: scripts to the replay program and the lines
+/// of its answers, lists to the list program, and inputs to the others.
 #[derive(Default)]
 struct Sent {
     scripts: u64,
     answers: u64,
+    lists: usize,
+    inputs: usize,
 }
 
-/// Streams of random numbers for lists lie far from those for scripts.
+/// Streams of random numbers for whole inputs lie far from those for scripts.
 const LIST_STREAM: u64 = 1 << 32;
+const TEXT_STREAM: u64 = 2 << 32;
+const RAW_STREAM: u64 = 3 << 32;
+
+/// A program that answers a whole input, and what is expected of it.
+struct Subject<'a> {
+    /// What its input is, in words.
+    input: &'a str,
+    program: &'a Program,
+    expected: fn(&[u8]) -> String,
+    /// The input in pieces, of which a smaller one may lack some.
+    pieces: fn(&[u8]) -> Vec<Item>,
+}
 
 fn main() -> ExitCode {
     let Some(options) = Options::from(std::env::args().skip(1)) else {
         eprintln!("{USAGE}");
         return ExitCode::from(2);
     };
-    if let Err(trouble) = options.replay.starts().and(options.list.starts()) {
+    let started: Result<(), String> = options.programs().iter().try_for_each(|one| one.starts());
+    if let Err(trouble) = started {
         eprintln!("{trouble}");
         return ExitCode::from(2);
     }
-    let started = Instant::now();
+    let begun = Instant::now();
     let mut tally = Tally::default();
-    let compared = compare_scripts(&options, &mut tally)
-        .and_then(|sent| compare_lists(&options).map(|lists| (sent, lists)));
-    let Ok((Sent { scripts, answers }, lists)) = compared else {
+    let Ok(sent) = compare_all(&options, &mut tally) else {
         return ExitCode::FAILURE;
     };
+    let Sent {
+        scripts,
+        answers,
+        lists,
+        inputs,
+    } = sent;
     print!("{}", tally.table());
-    let seconds = started.elapsed().as_secs_f64();
-    println!("{scripts} scripts and {lists} lists took {seconds:.1} s");
+    let seconds = begun.elapsed().as_secs_f64();
+    println!("{scripts} scripts, {lists} lists and {inputs} inputs took {seconds:.1} s");
     let missing = tally.missing();
     if !missing.is_empty() {
         println!("codes that never occurred: {missing:?}");
         return ExitCode::FAILURE;
     }
     let (answers, seed) = (grouped(answers), options.seed);
-    println!("compared {answers} answers, {lists} lists, seed {seed}: no difference");
+    println!(
+        "compared {answers} answers, {lists} lists, {inputs} inputs, seed {seed}: no difference"
+    );
     ExitCode::SUCCESS
+}
+
+fn compare_all(options: &Options, tally: &mut Tally) -> Result<Sent, Differs> {
+    let mut sent = compare_scripts(options, tally)?;
+    sent.lists = compare_lists(options)?;
+    sent.inputs = compare_typed_lists(options)?;
+    Ok(sent)
 }
 
 /// Compares the fixed scripts, then random ones until there are answers enough.
@@ -96,10 +127,68 @@ fn compare_lists(options: &Options) -> Result<usize, Differs> {
         full_list(LONGEST_LIST + 1),
     ];
     lists.extend((0..options.lists).map(|_| random::list(&mut rng)));
-    for list in &lists {
-        compare_list(&options.list, list)?;
+    let subject = Subject {
+        input: "list",
+        program: &options.list,
+        expected: listing,
+        pieces: commands,
+    };
+    compare_inputs(&subject, &lists)
+}
+
+/// The three programs for typed lists, both streams of each.
+fn compare_typed_lists(options: &Options) -> Result<usize, Differs> {
+    let texts = inputs::texts(&mut Rng::stream(options.seed, TEXT_STREAM), options.inputs);
+    let raw_lists = inputs::raw_lists(&mut Rng::stream(options.seed, RAW_STREAM), options.inputs);
+    let reading_text = [
+        (
+            &options.typed,
+            (|text| typed(text).in_words()) as fn(&[u8]) -> String,
+        ),
+        (&options.assemble, |text| assembler(text).in_words()),
+    ];
+    let mut compared = 0;
+    for (program, expected) in reading_text {
+        let subject = Subject {
+            input: "typed list",
+            program,
+            expected,
+            pieces: lines,
+        };
+        compared += compare_inputs(&subject, &texts)?;
     }
-    Ok(lists.len())
+    let subject = Subject {
+        input: "raw list",
+        program: &options.lister,
+        expected: |raw| lister(raw).in_words(),
+        pieces: commands,
+    };
+    Ok(compared + compare_inputs(&subject, &raw_lists)?)
+}
+
+fn compare_inputs(subject: &Subject, inputs: &[Vec<u8>]) -> Result<usize, Differs> {
+    for input in inputs {
+        if difference(subject.program, input, &(subject.expected)(input)).is_some() {
+            println!("a {} differs:", subject.input);
+            let pieces = (subject.pieces)(input);
+            return Err(report(
+                subject.program,
+                subject.expected,
+                &pieces,
+                pieces.len(),
+            ));
+        }
+    }
+    Ok(inputs.len())
+}
+
+fn commands(list: &[u8]) -> Vec<Item> {
+    commands_of(list).iter().map(|part| part.to_vec()).collect()
+}
+
+fn lines(text: &[u8]) -> Vec<Item> {
+    let lines = text.split_inclusive(|byte| *byte == b'\n');
+    lines.map(|line| line.to_vec()).collect()
 }
 
 /// As many whole flushes as fit, and zeros behind them.
@@ -107,15 +196,6 @@ fn full_list(length: usize) -> Vec<u8> {
     let mut list = [0x01, 0x5a, 0x00, 0x02].repeat(LONGEST_LIST / 4);
     list.resize(length, 0);
     list
-}
-
-fn compare_list(program: &Program, list: &[u8]) -> Result<(), Differs> {
-    if difference(program, list, &listing(list)).is_none() {
-        return Ok(());
-    }
-    println!("a list differs:");
-    let commands: Vec<Item> = commands_of(list).iter().map(|part| part.to_vec()).collect();
-    Err(report(program, listing, &commands, commands.len()))
 }
 
 /// The first line that is not as expected.

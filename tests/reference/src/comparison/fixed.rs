@@ -2,7 +2,7 @@
 //! how these are packed into scripts, and the scripts that end badly.
 
 use super::items::{fresh, read, status, Item};
-use super::{fixed_bench, fixed_wire};
+use super::{fixed_bench, fixed_lines, fixed_text, fixed_wire};
 use crate::replay::LONGEST_SCRIPT;
 
 /// Scripts are filled up to here; the rest is slack for one more item.
@@ -12,6 +12,8 @@ pub const SCRIPT_AIM: usize = 60_000;
 pub fn scripts() -> Vec<Vec<Item>> {
     let mut episodes = fixed_bench::episodes();
     episodes.extend(fixed_wire::episodes());
+    episodes.extend(fixed_lines::episodes());
+    episodes.extend(fixed_text::episodes());
     let mut scripts = packed(episodes);
     scripts.push(Vec::new());
     scripts.extend(bad_scripts());
@@ -42,7 +44,7 @@ fn packed(episodes: Vec<Vec<Item>>) -> Vec<Vec<Item>> {
 
 /// Items cut off at every sort of place, and first bytes that start no item.
 fn bad_scripts() -> Vec<Vec<Item>> {
-    let ends: [&[u8]; 12] = [
+    let ends: [&[u8]; 19] = [
         &[0x01],
         &[0x01, 5, 1, 0x5a, 0, 2],
         &[0x03, 0x20, 0x00, 0, 0],
@@ -54,6 +56,13 @@ fn bad_scripts() -> Vec<Vec<Item>> {
         &[0x08, 1],
         &[0x09, 0, 7, 0, 0, 0, 0, 0, 0, 0],
         &[0x0a],
+        &[0x0a, 0, 9, 0, 2, b'#'],
+        &[0x0b, 0, 9, 0],
+        &[0x0b, 0, 9, 0, 8, 1, 0x5a, 0, 2, 1, 0x5a, 0],
+        &[0x0c, 0x20, 0x00, 0, 0, 0, 1],
+        &[0x0d, 0, 1, b'#', 0, 0, 0],
+        &[0x0d, 0, 2, b'#'],
+        &[0x0e],
         &[0xff],
     ];
     ends.iter()

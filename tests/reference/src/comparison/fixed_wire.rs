@@ -51,7 +51,7 @@ fn edges(argument: &Argument) -> Vec<u32> {
 }
 
 /// A row's arguments with all of them allowed.
-fn good(row: &Row) -> [u32; 2] {
+pub(super) fn good(row: &Row) -> [u32; 2] {
     let mut values = [0; 2];
     for (value, argument) in values.iter_mut().zip(row.arguments) {
         *value = u32::from(argument.allows(1));
@@ -97,7 +97,7 @@ fn every_length() -> Vec<usize> {
 }
 
 /// A command of this row that claims and has L words (as far as it can), sealed.
-fn of_length(row: &Row, flag: u32, length: usize) -> Vec<u8> {
+pub(super) fn of_length(row: &Row, flag: u32, length: usize) -> Vec<u8> {
     let mut words = unsealed(&Command::new(false, row.kind, good(row)));
     words.resize(length.clamp(2, 34) - 1, 0);
     words[0] = u32::from(row.opcode) << OPCODE_SHIFT | flag | length as u32;
@@ -148,7 +148,7 @@ fn fault_sets(row: &Row) -> Vec<Item> {
 }
 
 /// One bit of `faults` for each fault; where a row cannot have it, it has none.
-fn faulty(row: &Row, faults: u32) -> Vec<u8> {
+pub(super) fn faulty(row: &Row, faults: u32) -> Vec<u8> {
     let has = |fault: u32| faults >> fault & 1 == 1;
     let mut set = good(row);
     for (position, argument) in row.arguments.iter().enumerate() {
@@ -176,7 +176,7 @@ fn faulty(row: &Row, faults: u32) -> Vec<u8> {
     bytes
 }
 
-fn flush() -> Vec<u8> {
+pub(super) fn flush() -> Vec<u8> {
     raw(false, Kind::TlmFlush, [0; 2])
 }
 

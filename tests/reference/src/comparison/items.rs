@@ -2,7 +2,10 @@
 //! allowed or not.
 
 use crate::command::{Command, Kind};
-use crate::replay::{COMMAND, DECODED, FRAME, FRESH, PASSED, READ, RUN, SECOND, SHOWN, STATUS};
+use crate::replay::{
+    ASSEMBLE, COMMAND, DECODED, FRAME, FRESH, LINE, LIST, PASSED, READ, RUN, SECOND, SHOWN, STATUS,
+    TYPED,
+};
 use crate::wire::{sealed, unsealed};
 
 /// One item of a script, as its bytes.
@@ -79,6 +82,35 @@ pub fn decoded(flag: u8, row: u8, arguments: [u32; 2]) -> Item {
     let mut item = vec![DECODED, flag, row];
     item.extend(arguments[0].to_be_bytes());
     item.extend(arguments[1].to_be_bytes());
+    item
+}
+
+pub fn assemble(room: u16, text: &[u8]) -> Item {
+    let mut item = vec![ASSEMBLE];
+    item.extend(room.to_be_bytes());
+    long_part(&mut item, text);
+    item
+}
+
+pub fn list_text(room: u16, raw: &[u8]) -> Item {
+    let mut item = vec![LIST];
+    item.extend(room.to_be_bytes());
+    long_part(&mut item, raw);
+    item
+}
+
+pub fn typed(room: u16, kit: &[u8], text: &[u8]) -> Item {
+    let mut item = vec![TYPED];
+    item.extend(room.to_be_bytes());
+    long_part(&mut item, kit);
+    long_part(&mut item, text);
+    item
+}
+
+pub fn line(text: &[u8], number: u32) -> Item {
+    let mut item = vec![LINE];
+    long_part(&mut item, text);
+    item.extend(number.to_be_bytes());
     item
 }
 

@@ -4,11 +4,16 @@
 pub mod damage;
 pub mod fixed;
 pub mod fixed_bench;
+pub mod fixed_lines;
+pub mod fixed_text;
 pub mod fixed_wire;
+pub mod inputs;
 pub mod items;
 pub mod options;
 pub mod program;
 pub mod random;
+mod random_text;
 pub mod rng;
 pub mod shrink;
 pub mod tally;
+pub mod texts;

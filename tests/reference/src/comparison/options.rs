@@ -3,47 +3,90 @@
 
 use super::program::Program;
 
-pub const USAGE: &str =
-    "usage: compare --replay \"CMD\" --list \"CMD\" [--seed N] [--lists N] [--answers N]";
+pub const USAGE: &str = "usage: compare --replay \"CMD\" --list \"CMD\" \
+    --typed \"CMD\" --assemble \"CMD\" --lister \"CMD\" \
+    [--seed N] [--lists N] [--inputs N] [--answers N]";
 
 pub struct Options {
     pub replay: Program,
     pub list: Program,
+    pub typed: Program,
+    pub assemble: Program,
+    pub lister: Program,
     pub seed: u64,
     /// How many random lists are sent, besides those of 0, 4,096 and 4,097 bytes.
     pub lists: usize,
+    /// How many random inputs each program for typed lists gets, besides the fixed ones.
+    pub inputs: usize,
     /// How many transcript lines are to be compared at least.
     pub answers: u64,
 }
 
 const DEFAULT_SEED: u64 = 1;
-const DEFAULT_LISTS: usize = 300;
-const DEFAULT_ANSWERS: u64 = 200_000;
+const DEFAULT_LISTS: usize = 150;
+const DEFAULT_INPUTS: usize = 40;
+const DEFAULT_ANSWERS: u64 = 220_000;
+
+/// The same options while it is not yet known whether all have been given.
+#[derive(Default)]
+struct Given {
+    replay: Option<Program>,
+    list: Option<Program>,
+    typed: Option<Program>,
+    assemble: Option<Program>,
+    lister: Option<Program>,
+    seed: Option<u64>,
+    lists: Option<usize>,
+    inputs: Option<usize>,
+    answers: Option<u64>,
+}
+
+impl Given {
+    /// Takes one option; none where its name or its value is unknown.
+    fn take(&mut self, name: &str, value: &str) -> Option<()> {
+        match name {
+            "--replay" => self.replay = Program::new(value),
+            "--list" => self.list = Program::new(value),
+            "--typed" => self.typed = Program::with_errors(value),
+            "--assemble" => self.assemble = Program::with_errors(value),
+            "--lister" => self.lister = Program::with_errors(value),
+            "--seed" => self.seed = Some(value.parse().ok()?),
+            "--lists" => self.lists = Some(value.parse().ok()?),
+            "--inputs" => self.inputs = Some(value.parse().ok()?),
+            "--answers" => self.answers = Some(value.parse().ok()?),
+            _ => return None,
+        }
+        Some(())
+    }
+}
 
 impl Options {
-    pub fn from(arguments: impl Iterator<Item = String>) -> Option<Self> {
-        let (mut replay, mut list) = (None, None);
-        let mut seed = DEFAULT_SEED;
-        let mut lists = DEFAULT_LISTS;
-        let mut answers = DEFAULT_ANSWERS;
-        let mut arguments = arguments;
+    pub fn from(mut arguments: impl Iterator<Item = String>) -> Option<Self> {
+        let mut given = Given::default();
         while let Some(name) = arguments.next() {
-            let value = arguments.next()?;
-            match name.as_str() {
-                "--replay" => replay = Program::new(&value),
-                "--list" => list = Program::new(&value),
-                "--seed" => seed = value.parse().ok()?,
-                "--lists" => lists = value.parse().ok()?,
-                "--answers" => answers = value.parse().ok()?,
-                _ => return None,
-            }
+            given.take(&name, &arguments.next()?)?;
         }
         Some(Options {
-            replay: replay?,
-            list: list?,
-            seed,
-            lists,
-            answers,
+            replay: given.replay?,
+            list: given.list?,
+            typed: given.typed?,
+            assemble: given.assemble?,
+            lister: given.lister?,
+            seed: given.seed.unwrap_or(DEFAULT_SEED),
+            lists: given.lists.unwrap_or(DEFAULT_LISTS),
+            inputs: given.inputs.unwrap_or(DEFAULT_INPUTS),
+            answers: given.answers.unwrap_or(DEFAULT_ANSWERS),
         })
+    }
+
+    /// Every program that is to be started.
+    pub fn programs(&self) -> [&Program; 5] {
+        [
+            &self.replay,
+            &self.list,
+            &self.typed,
+            &self.assemble,
+            &self.lister,
+        ]
     }
 }

@@ -15,9 +15,9 @@ use crate::replay::{Replay, Script, DECODED_ROOM, LONGEST_SCRIPT};
 use crate::run::{KIT, LONGEST_LIST, PUPIL, SMALLEST_REPORT_ROOM};
 use crate::wire::MOST_WORDS;
 
-struct Maker {
-    rng: Rng,
-    shadow: Replay,
+pub(super) struct Maker {
+    pub(super) rng: Rng,
+    pub(super) shadow: Replay,
     items: Vec<Item>,
     bytes: usize,
 }
@@ -45,7 +45,7 @@ pub fn list(rng: &mut Rng) -> Vec<u8> {
 }
 
 impl Maker {
-    fn push(&mut self, item: Item) {
+    pub(super) fn push(&mut self, item: Item) {
         if self.bytes + item.len() > LONGEST_SCRIPT {
             return;
         }
@@ -54,19 +54,24 @@ impl Maker {
         self.items.push(item);
     }
 
-    fn push_all(&mut self, items: impl IntoIterator<Item = Item>) {
+    pub(super) fn push_all(&mut self, items: impl IntoIterator<Item = Item>) {
         items.into_iter().for_each(|item| self.push(item));
     }
 
     fn episode(&mut self) {
-        match self.rng.below(10) {
-            0..=2 => self.macros_episode(),
-            3 | 4 => self.chatter_episode(),
-            5 => self.decoded_episode(),
-            6 => self.lists_episode(),
-            7 => self.frames_episode(),
-            8 => self.reads_episode(),
-            _ => self.shown_episode(),
+        match self.rng.below(130) {
+            0..=29 => self.macros_episode(),
+            30..=49 => self.chatter_episode(),
+            50..=59 => self.decoded_episode(),
+            60..=69 => self.lists_episode(),
+            70..=79 => self.frames_episode(),
+            80..=89 => self.reads_episode(),
+            90..=99 => self.shown_episode(),
+            100..=108 => self.assemble_episode(),
+            109..=114 => self.list_episode(),
+            115..=124 => self.typed_episode(),
+            125..=128 => self.line_episode(),
+            _ => self.long_text_episode(),
         }
     }
 
@@ -177,8 +182,14 @@ impl Maker {
 
     /// A command that stands a fair chance in the bench's state.
     fn likely_command(&mut self) -> Vec<u8> {
+        let (flag, kind, values) = self.likely(10);
+        raw(flag, kind, values)
+    }
+
+    /// Flag, kind and arguments of such a command.
+    pub(super) fn likely(&mut self, bad_percent: usize) -> (bool, Kind, [u32; 2]) {
         let kind = any_kind(&mut self.rng);
-        let mut values = arguments(&mut self.rng, kind, 10);
+        let mut values = arguments(&mut self.rng, kind, bad_percent);
         if kind == Kind::Run && self.rng.percent(80) {
             values[0] = self.likely_number();
         }
@@ -189,7 +200,7 @@ impl Maker {
             _ if open => 60,
             _ => 10,
         };
-        raw(self.rng.percent(chance), kind, values)
+        (self.rng.percent(chance), kind, values)
     }
 
     fn chatter_episode(&mut self) {
@@ -251,7 +262,7 @@ impl Maker {
         (kit, pupil)
     }
 
-    fn aimed_list(&mut self, damage_percent: usize) -> Vec<u8> {
+    pub(super) fn aimed_list(&mut self, damage_percent: usize) -> Vec<u8> {
         let mut list = Vec::new();
         for _ in 0..self.rng.below(60) {
             let mut bytes = self.likely_command();
@@ -265,7 +276,7 @@ impl Maker {
         list
     }
 
-    fn report_room(&mut self) -> u16 {
+    pub(super) fn report_room(&mut self) -> u16 {
         let enough = SMALLEST_REPORT_ROOM;
         let room = match self.rng.below(8) {
             0 => self.rng.below(enough),

@@ -1,43 +1,49 @@
 //! Which codes a transcript holds, how often each occurred, and the first line
 //! in which two transcripts differ.
 
-use crate::codes::HIGHEST_CODE;
+use std::collections::BTreeMap;
 
-const CODES: usize = HIGHEST_CODE as usize + 1;
+use crate::codes::can_be_shown;
 
 /// How often each code occurred.
 #[derive(Clone, Debug, Default)]
 pub struct Tally {
-    counts: [u64; CODES],
+    counts: BTreeMap<u8, u64>,
 }
 
 impl Tally {
     pub fn add(&mut self, transcript: &str) {
         for code in transcript.lines().flat_map(codes_in) {
-            if let Some(count) = self.counts.get_mut(code) {
-                *count += 1;
-            }
+            *self.counts.entry(code).or_default() += 1;
         }
     }
 
-    pub fn missing(&self) -> Vec<usize> {
-        (0..CODES).filter(|code| self.counts[*code] == 0).collect()
+    /// The codes that could have occurred and did not.
+    pub fn missing(&self) -> Vec<u8> {
+        codes()
+            .filter(|code| !self.counts.contains_key(code))
+            .collect()
     }
 
     pub fn table(&self) -> String {
         let mut table = String::from("code occurred\n");
-        for (code, count) in self.counts.iter().enumerate() {
-            table += &format!("{code:4} {:>8}\n", grouped(*count));
+        for code in codes() {
+            let count = self.counts.get(&code).copied();
+            table += &format!("{code:4} {:>8}\n", grouped(count.unwrap_or_default()));
         }
         table
     }
 }
 
+fn codes() -> impl Iterator<Item = u8> {
+    (0..=u8::MAX).filter(|code| can_be_shown(*code))
+}
+
 /// All codes that one line of a transcript shows.
-fn codes_in(line: &str) -> Vec<usize> {
+fn codes_in(line: &str) -> Vec<u8> {
     let words: Vec<&str> = line.split(' ').collect();
     let places: &[usize] = match words[0] {
-        "command" | "run" => &[1],
+        "command" | "run" | "assembled" | "listed" | "typed" => &[1],
         "frame" => &[1, 2],
         "read" | "decoded" => &[1, 3],
         "record" => return record_code(words.get(1)).into_iter().collect(),
@@ -48,8 +54,8 @@ fn codes_in(line: &str) -> Vec<usize> {
 }
 
 /// The code is the second byte of a record.
-fn record_code(digits: Option<&&str>) -> Option<usize> {
-    usize::from_str_radix(digits?.get(2..4)?, 16).ok()
+fn record_code(digits: Option<&&str>) -> Option<u8> {
+    u8::from_str_radix(digits?.get(2..4)?, 16).ok()
 }
 
 /// A number with a comma before each three digits.

@@ -1,7 +1,7 @@
 -- `Bench::run` meets its contract: at each refusal the tests passed on the way say which code is due, and a run that is carried out is the kit's list
 -- and then the pupil's (`TwoLists`).
 use Prim.Native.Nat.{_+_, _*_, _≤_}
-use mathlib.Core.Path.{_≡_, refl, ap, _∙_}
+use mathlib.Core.Path.{_≡_, refl}
 use native.Mathlib.Omega.{arith}
 use lib.ListN.{length}
 use borrow.Author.Needs.{needs}
@@ -9,11 +9,11 @@ use borrow.Author.Tests.{lt-ltb, le-ltb, not-true, not-false}
 use Rattle.walk.specs.Walk.{rests}
 use Rattle.walk.proofs.Rests.{records-fit}
 use Rattle.bench.specs.declared.lists.Begun.{Begun}
-use Rattle.bench.specs.Status.{benchSound}
-use Rattle.bench.specs.Run.{runCode}
+use Rattle.bench.specs.Run.{ownNumbers, runCode}
+use Rattle.bench.proofs.InTurn.{own-even}
 use Rattle.bench.proofs.Sound.{GoodBench}
 use Rattle.bench.proofs.Shapes.{survey-unsound, survey-good, survey-tallied}
-use Rattle.bench.proofs.TwoLists.{list-keeps, refused-run, rest-fits, part-fits, run-done}
+use Rattle.bench.proofs.TwoLists.{kit-keeps, rest-fits, part-fits, bench-left, both-put, refused-run, run-done}
 use Rattle.bench.proofs.Bench.run.Statement.{statement}
 use Rattle.bench.proofs.Bench.run.Tie as tie
 
@@ -124,7 +124,9 @@ left-fits c =
     let checked = c .before .before .before in
     let args = entry (checked .before .before) .args in
     let first = c .run-list .ensures in
-    rest-fits (args .self) (args .kit .now) (args .pupil .now) (args .room .now) (fits checked) (first .0 .1) (first .0 .0) (first .1 .1)
+    let numbers = ownNumbers (args .pupil .now) in
+    rest-fits (args .self) (args .kit .now) numbers (args .pupil .now) (args .room .now) (own-even (args .pupil .now)) (fits checked)
+    (first .0 .1) (first .0 .0) (first .1 .1)
 
 sub-run-list : tie.Need-sub-run-list
 sub-run-list c = omega (arith, left-fits (c .before .before .before .before .before))
@@ -141,12 +143,15 @@ run-list-requires-2 c κs =
     let first = ran .run-list .ensures in
     let checked = ran .before .before .before in
     let surveyed = checked .before .before in
-    let args = entry surveyed .args in (
+    let args = entry surveyed .args in
+    let kit = args .kit .now in
+    let pupil = args .pupil .now in (
       (
         surveyed .before .before .if2 .left,
-        part-fits (args .self) (args .kit .now) (args .pupil .now) (args .room .now) (fits checked) (first .0 .1) (first .0 .0) (first .1 .1),
+        part-fits (args .self) kit (ownNumbers pupil) pupil (args .room .now) (own-even pupil) (fits checked)
+            (first .0 .1) (first .0 .0) (first .1 .1),
       ),
-      (ap benchSound (first .0 .0) ∙ list-keeps (args .self) (good checked) 1 1 (rests (args .kit .now)) .sound, first .1 .0),
+      (kit-keeps (args .self) (good checked) kit (first .0 .0), first .1 .0),
     )
 
 same-length : tie.Need-same-length
@@ -160,8 +165,13 @@ returns-5 c =
     let second = ran .run-list2 .ensures in
     let checked = ran-first .before .before .before in
     let args = entry (checked .before .before) .args in
-    run-done (args .self) (args .kit .now) (args .pupil .now) (args .room .now) (fits checked) (first .0 .1) (first .0 .0) (first .1 .1)
-    (second .0 .1) (second .0 .0) (second .1 .1) (passed checked)
+    let kit = args .kit .now in
+    let pupil = args .pupil .now in
+    run-done (args .self) kit pupil (args .room .now) (passed checked) (first .0 .1) (second .0 .1)
+    (bench-left (args .self) kit (ownNumbers pupil) pupil (args .room .now) (own-even pupil) (fits checked)
+    (first .0 .1) (first .0 .0) (first .1 .1) (second .0 .0) (second .1 .1))
+    (both-put (args .self) kit (ownNumbers pupil) pupil (args .room .now) (own-even pupil) (fits checked)
+    (first .0 .1) (first .0 .0) (first .1 .1) (second .0 .0) (second .1 .1))
 
 pub run-spec : {M : Type 1} → statement M
 run-spec =

@@ -1,4 +1,4 @@
--- `run_list` meets its contract, by the three laws of `Listing`: the loop's invariant is that what is left of the list, carried out from here, gives
+-- `run_list` meets its contract, by the laws of `RawList`: the loop's invariant is that what is left of the list, carried out from here, gives
 -- what the whole list gives from its start, with a tally that is true of a sound bench. Each turn passes one byte at least.
 use Prim.Native.Nat.{_+_, _*_, _-_, _≤_, _<_}
 use mathlib.Core.Path.{_≡_, sym, ap, _∙_}
@@ -14,13 +14,14 @@ use Rattle.store.specs.declared.tally.Slot.{Slot}
 use Rattle.store.specs.TallySteps.{putInto, entriesAfter}
 use Rattle.store.proofs.Laws.{slot-within}
 use Rattle.bench.proofs.Shapes.{shaped}
-use Rattle.bench.proofs.Listing.{benchOf, Behind, start, from-parts, more-rests, turn-refused, turn-accepted, list-ended}
+use Rattle.bench.proofs.Listing.{benchOf}
+use Rattle.bench.proofs.RawList.{AtPlace, start, from-parts, more-rests, turn-refused, turn-accepted, list-ended}
 use Rattle.bench.proofs.lists.run_list.Statement.{statement}
 use Rattle.bench.proofs.lists.run_list.Tie as tie
 
 abbrev Inv-loop : tie.InvT-loop
 Inv-loop list sender room₀ camera₀ entries₀ tally₀ at₀ count₀ room camera entries tally at count =
-    Behind (benchOf camera₀ entries₀ tally₀) sender list room₀ room (benchOf camera entries tally) tally at count
+    AtPlace (benchOf camera₀ entries₀ tally₀) sender list room₀ room (benchOf camera entries tally) tally at count
 
 abbrev μ-loop : tie.MeasureT-loop
 μ-loop list sender room₀ camera₀ entries₀ tally₀ at₀ count₀ room camera entries tally at count = length list - at
@@ -184,7 +185,7 @@ of-parts-requires : tie.Need-of-parts-requires Inv-loop μ-loop
 of-parts-requires c κs = search needs
 
 same-length : tie.Need-same-length Inv-loop μ-loop
-same-length c = c .before .before .loop .inv .same
+same-length c = c .before .before .loop .inv .behind .same
 
 returns : tie.Need-returns Inv-loop μ-loop
 returns c =

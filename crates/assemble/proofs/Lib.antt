@@ -1,0 +1,2 @@
+-- Laws of what the assembler writes.
+pub mod Printed

@@ -1,0 +1,2 @@
+-- What the assembler writes.
+pub mod Printed

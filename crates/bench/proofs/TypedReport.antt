@@ -1,0 +1,230 @@
+-- 02, Q-1, for a moderator to read: what the run of a typed list leaves. It is the run of the list that the text says, but for the numbers of the
+-- pupil's records: record k + 1 of the pupil carries the number of the line that says command k + 1. Places k count from 0.
+use Prim.Native.Nat.{ℕ, zero, suc, _+_, _*_, _-_, _≤_, _<_}
+use mathlib.Core.Path.{_≡_, refl, sym, ap, _∙_}
+use mathlib.Core.Logic.{_⊎_, inl, inr, _≢_}
+use mathlib.Core.List.{List, [], _∷_, _++_}
+use mathlib.Core.Bool.{Bool, true, false, cond, _||_, _&&_}
+use native.Mathlib.Omega.{arith}
+use lib.ListN.{length, getD, take, drop}
+use lib.Dec.{eqb, leb, ltb}
+use borrow.Author.Tests.{ltb-false, le-ltb, leb-true, ne-eqb, not-false}
+use Rattle.words.proofs.Tests.{neither, both}
+use Rattle.words.specs.BigEndian.{wordAt, written}
+use Rattle.wire.specs.declared.judging.Told.{Told}
+use Rattle.wire.specs.Codes.{Check, firstOf}
+use Rattle.wire.specs.Read.{said, readCode}
+use Rattle.walk.specs.Walk.{rests}
+use Rattle.text.specs.Assemble.{lineNumbers, bytesIn, badLine}
+use Rattle.text.proofs.Found.{found-silent, whole-silent}
+use Rattle.text.proofs.Assembled.{AllRead, assembled-passes}
+use Rattle.store.specs.declared.roles.Role.{Role}
+use Rattle.store.specs.Checks.{permitCode, storeChecks}
+use Rattle.bench.specs.declared.Bench.{Bench}
+use Rattle.bench.specs.Status.{freshBench, benchSound}
+use Rattle.bench.specs.Carry.{bytesChecks, taken}
+use Rattle.bench.specs.Events.{Event, typed, after, Reached, accepts, acceptsAny}
+use Rattle.bench.specs.Run.{kitPart, runOf, roomAfter}
+use Rattle.bench.specs.Typed.{typedFindings, typedFound, typedPart, typedReport, typedOf, typedRoom}
+use Rattle.bench.proofs.Outcomes.{read-then}
+use Rattle.bench.proofs.InTurn.{typed-even, both-left, run-left}
+use Rattle.bench.proofs.Sound.{GoodBench}
+use Rattle.bench.proofs.MacroRun.{after-append}
+use Rattle.bench.proofs.Report.{restAt, verdictAt, recordOf, recordAt, both-fit, kit-placed, pupil-placed, rest-placed, commandsOf}
+use Rattle.bench.proofs.Report.{lists-leave, lists-accept}
+use Rattle.bench.proofs.Report as raw
+
+-- What a typed run with code 0 has passed.
+pub record Passed (b : Bench) (kit text room : List ℕ) : Type 0 where
+  pub text-short : length text ≤ 32768
+  pub kit-short : length kit ≤ 4096
+  pub good : badLine text .told .code ≡ 0
+  pub list-short : length (bytesIn text) ≤ 4096
+  pub enough : 8192 ≤ length room
+  pub sound : benchSound b ≡ true
+
+pub passed : (b : Bench) (kit text room : List ℕ) → typedOf b kit text room .found .told .code ≡ 0 → Passed b kit text room
+unfolding typedOf typedFound
+passed b kit text room accepted =
+    let silent = found-silent (typedFindings b kit text room) accepted in
+    let due = ltb 32768 (length text) || ltb 4096 (length kit) in
+    let short = neither (ltb 32768 (length text)) (ltb 4096 (length kit)) (whole-silent 20 due (λ e. omega arith) (silent .0)) in
+    record {
+      text-short = ltb-false 32768 (length text) (short .0);
+      kit-short = ltb-false 4096 (length kit) (short .1);
+      good = silent .1 .0;
+      list-short = ltb-false 4096 (length (bytesIn text)) (whole-silent 20 (ltb 4096 (length (bytesIn text))) (λ e. omega arith) (silent .1 .1 .0));
+      enough = ltb-false (length room) 8192 (whole-silent 21 (ltb (length room) 8192) (λ e. omega arith) (silent .1 .1 .1 .0));
+      sound = not-false (benchSound b) (whole-silent 27 _ (λ e. omega arith) (silent .1 .1 .1 .1 .0));
+    }
+
+-- Nothing is found of the run of the list that the text says, either.
+raw-passes : (b : Bench) (kit text room : List ℕ) → Passed b kit text room → runOf b kit (bytesIn text) room .code ≡ 0
+unfolding runOf
+raw-passes b kit text room p =
+    rw (
+      le-ltb 4096 (length kit) (p .kit-short),
+      le-ltb 4096 (length (bytesIn text)) (p .list-short),
+      le-ltb (length room) 8192 (p .enough),
+      p .sound,
+    )
+
+-- A run that is carried out.
+module _ (b : Bench) (kit text room : List ℕ) (accepted : typedOf b kit text room .found .told .code ≡ 0) where
+  pub kit-count : typedOf b kit text room .kit ≡ length (rests kit)
+  unfolding typedOf
+  kit-count = rw accepted
+
+  pub pupil-count : typedOf b kit text room .pupil ≡ length (rests (bytesIn text))
+  unfolding typedOf
+  pupil-count = rw accepted
+
+  pub bench-after : typedOf b kit text room .bench ≡ typedPart b kit text .bench
+  unfolding typedOf
+  bench-after = rw accepted
+
+  room-is : typedRoom b kit text room ≡ written (typedReport b kit text) room
+  unfolding typedRoom typedOf
+  room-is = rw accepted
+
+  fits : length (typedReport b kit text) ≤ length room
+  fits =
+      let p = passed b kit text room accepted in
+      omega (arith, p, both-fit b kit (lineNumbers text) (bytesIn text) (typed-even text) (p .kit-short) (p .list-short))
+
+  -- The kit's record number k + 1 stands at place k of the room, with its number in the kit's own list.
+  pub kit-record : (k : ℕ) → k < length (rests kit) → recordAt (typedRoom b kit text room) k ≡ recordOf 1 (verdictAt b kit k) (k + 1)
+  kit-record k there =
+      ap (λ l. recordAt l k) room-is ∙ kit-placed b kit (lineNumbers text) (bytesIn text) (typed-even text) room fits k there
+
+  -- The pupil's stands k places behind the kit's records, with the number of its line, whatever the kit's list holds.
+  pub pupil-record : (k : ℕ) → k < length (rests (bytesIn text))
+      → recordAt (typedRoom b kit text room) (length (rests kit) + k)
+      ≡ recordOf 2 (verdictAt (kitPart b kit .bench) (bytesIn text) k) (getD (lineNumbers text) k 0)
+  pupil-record k there =
+      ap (λ l. recordAt l (length (rests kit) + k)) room-is
+      ∙ pupil-placed b kit (lineNumbers text) (bytesIn text) (typed-even text) room fits k there
+
+  -- "Bytes after the last record stay."
+  pub rest-stays : let end = 8 * (length (rests kit) + length (rests (bytesIn text))) in drop end (typedRoom b kit text room) ≡ drop end room
+  rest-stays =
+      ap (drop (8 * (length (rests kit) + length (rests (bytesIn text))))) room-is
+      ∙ rest-placed b kit (lineNumbers text) (bytesIn text) (typed-even text) room fits
+
+-- The run of the list that a text says, beside the run of the text.
+pub record SameRun (b : Bench) (kit text room : List ℕ) : Type 0 where
+  pub code : runOf b kit (bytesIn text) room .code ≡ 0
+  pub bench : typedOf b kit text room .bench ≡ runOf b kit (bytesIn text) room .bench
+  pub kit-count : typedOf b kit text room .kit ≡ runOf b kit (bytesIn text) room .kit
+  pub pupil-count : typedOf b kit text room .pupil ≡ runOf b kit (bytesIn text) room .pupil
+  -- The kit's records are the same, byte for byte,
+  pub kit-records : (k : ℕ) → k < length (rests kit)
+      → recordAt (typedRoom b kit text room) k ≡ recordAt (roomAfter b kit (bytesIn text) room) k
+  -- and so are sender, code, parameter and spare byte of the pupil's;
+  pub pupil-verdicts : (k : ℕ) → k < length (rests (bytesIn text)) → let at = length (rests kit) + k in
+      take 4 (recordAt (typedRoom b kit text room) at) ≡ take 4 (recordAt (roomAfter b kit (bytesIn text) room) at)
+  -- the number is that of the line.
+  pub pupil-numbers : (k : ℕ) → k < length (rests (bytesIn text))
+      → wordAt (recordAt (typedRoom b kit text room) (length (rests kit) + k)) 4 ≡ getD (lineNumbers text) k 0
+  pub rest : let end = 8 * (length (rests kit) + length (rests (bytesIn text))) in
+      drop end (typedRoom b kit text room) ≡ drop end (roomAfter b kit (bytesIn text) room)
+
+number-back : (sender : ℕ) (told : Told) (number : ℕ) → wordAt (recordOf sender told number) 4 ≡ number
+number-back sender told number = omega arith
+
+pub same-run : (b : Bench) (kit text room : List ℕ) → typedOf b kit text room .found .told .code ≡ 0 → SameRun b kit text room
+same-run b kit text room accepted =
+    let pupil = bytesIn text in
+    let code = raw-passes b kit text room (passed b kit text room accepted) in
+    record {
+      code = code;
+      bench = bench-after b kit text room accepted ∙ bench-is b kit text room code;
+      kit-count = kit-count b kit text room accepted ∙ sym (raw.kit-count b kit pupil room code);
+      pupil-count = pupil-count b kit text room accepted ∙ sym (raw.pupil-count b kit pupil room code);
+      kit-records = λ k there. kit-record b kit text room accepted k there ∙ sym (raw.kit-record b kit pupil room code k there);
+      pupil-verdicts = λ k there.
+          ap (take 4) (pupil-record b kit text room accepted k there) ∙ sym (ap (take 4) (raw.pupil-record b kit pupil room code k there));
+      pupil-numbers = λ k there.
+          ap (λ l. wordAt l 4) (pupil-record b kit text room accepted k there)
+          ∙ number-back 2 (verdictAt (kitPart b kit .bench) pupil k) (getD (lineNumbers text) k 0);
+      rest = rest-stays b kit text room accepted ∙ sym (raw.rest-stays b kit pupil room code);
+    }
+  where
+    bench-is : (b : Bench) (kit text room : List ℕ) → runOf b kit (bytesIn text) room .code ≡ 0
+        → typedPart b kit text .bench ≡ runOf b kit (bytesIn text) room .bench
+    bench-is b kit text room code =
+        both-left b kit (lineNumbers text) (bytesIn text) (typed-even text) ∙ sym (run-left b kit (bytesIn text) room code)
+
+-- Rows 1 to 10 passed when the text was judged: a typed command gets 0 or a code of the store, and no parameter.
+pub record OfStore (told : Told) : Type 0 where
+  pub code : (told .code ≡ 0) ⊎ ((11 ≤ told .code) × (told .code ≤ 19))
+  pub par : told .par ≡ 0
+
+abbrev within : List Check → Bool
+within [] = true
+within (c ∷ cs) = leb 11 (c .code) && leb (c .code) 19 && within cs
+
+first-within : (cs : List Check) → within cs ≡ true → (firstOf cs ≡ 0) ⊎ ((11 ≤ firstOf cs) × (firstOf cs ≤ 19))
+first-within [] all = inl refl
+first-within (c ∷ cs) all =
+    let parts = both (leb 11 (c .code) && leb (c .code) 19) (within cs) all in
+    let own = both (leb 11 (c .code)) (leb (c .code) 19) (parts .0) in
+    go (c .due) (leb-true 11 (c .code) (own .0)) (leb-true (c .code) 19 (own .1)) (first-within cs (parts .1))
+  where
+    go : (t : Bool) → 11 ≤ c .code → c .code ≤ 19 → (firstOf cs ≡ 0) ⊎ ((11 ≤ firstOf cs) × (firstOf cs ≤ 19))
+        → (cond t (c .code) (firstOf cs) ≡ 0) ⊎ ((11 ≤ cond t (c .code) (firstOf cs)) × (cond t (c .code) (firstOf cs) ≤ 19))
+    go true least most rest = inr (least, most)
+    go false least most rest = rest
+
+read-told : (b : Bench) (s : List ℕ) → readCode s ≡ 0 → OfStore (taken b s .told)
+unfolding taken permitCode
+read-told b s read =
+    let code : firstOf (bytesChecks b s) ≡ permitCode (b .store) (said s) = rw (read-then b s, read) in
+    let rows = first-within (storeChecks (b .store) (said s)) refl in
+    record { code = rw code rows; par = rw (code, ne-eqb (permitCode (b .store) (said s)) 8 (not-8 (permitCode (b .store) (said s)) rows)) }
+  where
+    not-8 : (n : ℕ) → (n ≡ 0) ⊎ ((11 ≤ n) × (n ≤ 19)) → n ≢ 8
+    not-8 n (inl none) e = omega arith
+    not-8 n (inr some) e = omega (arith, some)
+
+read-at : (rs : List (List ℕ)) → AllRead rs → (k : ℕ) → k < length rs → readCode (getD rs k []) ≡ 0
+read-at [] all k there = absurd (omega arith)
+read-at (r ∷ rs) all zero there = all .0
+read-at (r ∷ rs) all (suc k) there = read-at rs (all .1) k (omega arith)
+
+pub typed-told : (b : Bench) (text : List ℕ) (k : ℕ) → k < length (rests (bytesIn text)) → OfStore (taken b (restAt (bytesIn text) k) .told)
+typed-told b text k there = read-told b (restAt (bytesIn text) k) (read-at (rests (bytesIn text)) (assembled-passes text) k there)
+
+-- A typed run told command by command, each an event of its own from its bytes; none where the run is refused.
+abbrev pub typedEvents : Bench → List ℕ → List ℕ → List ℕ → List Event
+typedEvents b kit text room = cond (eqb (typedOf b kit text room .found .told .code) 0) (commandsOf kit (bytesIn text)) []
+
+module _ (b : Bench) (good : GoodBench b) (kit text room : List ℕ) where
+  pub typed-leaves : typedOf b kit text room .bench ≡ after b (typedEvents b kit text room)
+  unfolding typedOf
+  typed-leaves = lists-leave b good kit (bytesIn text) (lineNumbers text) (typed-even text) (eqb (typedFound b kit text room .told .code) 0)
+
+  pub typed-accepts : (test : Role → Bool) → accepts test b (typed kit text room) ≡ acceptsAny test b (typedEvents b kit text room)
+  unfolding typedOf
+  typed-accepts test = lists-accept b good kit (bytesIn text) test (eqb (typedFound b kit text room .told .code) 0)
+
+-- From a state that can be reached such a run leads to one that can be reached.
+pub typed-reaches : (b : Bench) → Reached b → (kit text room : List ℕ) → Reached (typedOf b kit text room .bench)
+typed-reaches b r kit text room =
+    record {
+      events = r .events ++ (typed kit text room ∷ []);
+      reached = after-append freshBench (r .events) (typed kit text room ∷ []) ∙ ap (λ c. typedOf c kit text room .bench) (r .reached);
+    }
+
+-- A refused typed run leaves the bench and every byte of the room as they were, with counts of zero.
+pub record Untouched (b : Bench) (kit text room : List ℕ) : Type 0 where
+  pub bench : typedOf b kit text room .bench ≡ b
+  pub kit-count : typedOf b kit text room .kit ≡ 0
+  pub pupil-count : typedOf b kit text room .pupil ≡ 0
+  pub bytes : typedRoom b kit text room ≡ room
+
+pub refused-leaves : (b : Bench) (kit text room : List ℕ) → typedOf b kit text room .found .told .code ≢ 0 → Untouched b kit text room
+unfolding typedOf typedRoom
+refused-leaves b kit text room refused =
+    let not-0 = ne-eqb (typedFound b kit text room .told .code) 0 refused in
+    record { bench = rw not-0; kit-count = rw not-0; pupil-count = rw not-0; bytes = rw not-0 }

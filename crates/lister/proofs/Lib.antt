@@ -1,0 +1,2 @@
+-- Laws of what the lister writes.
+pub mod Printed

@@ -1,0 +1,43 @@
+-- `put_printed` meets its contract: what the lister answers and leaves says what is to be written (`Printed`).
+use Prim.Native.Nat.{_≤_}
+use mathlib.Core.Path.{ap, _∙_}
+use native.Mathlib.Omega.{arith}
+use lib.ListN.{length}
+use borrow.Author.Needs.{needs}
+use Rattle.text.specs.Lister.{textOf}
+use Rattle.listing.specs.declared.refusals.Numbered.{Numbered}
+use Rattle.listing.specs.Refusal.{refusalRoom}
+use Rattle.listing.proofs.Outputs.{output, room-left}
+use Rattle.lister.specs.Printed.{checks, printed}
+use Rattle.lister.proofs.Printed.{fits, answered, stays}
+use Rattle.lister.proofs.put_printed.Statement.{statement}
+use Rattle.lister.proofs.put_printed.Tie as tie
+
+list-text-requires : tie.Need-list-text-requires
+list-text-requires c κs = search needs
+
+put-outcome-requires : tie.Need-put-outcome-requires
+put-outcome-requires c κs = search needs
+
+same-length : tie.Need-same-length
+same-length c = search needs
+
+returns : tie.Need-returns
+unfolding printed
+returns c =
+    let put = c .before .before .put-outcome in
+    let made = c .before .before .before .before .before .before in
+    let start = made .before .before .before .before in
+    let raw = start .args .raw .now in
+    let room = start .args .room .now in
+    let fit = fits raw room (λ i. omega (arith, made .before .before .shared-slice-known .given i)) (start .pre) in
+    let answer = made .list-text .ensures .0 ∙ answered raw room in
+    let lies = made .list-text .ensures .1 ∙ stays raw room in
+    let short = put .ensures .1 .1 in
+    let enough : refusalRoom ≤ length room = omega (arith, start .pre) in
+    let told = put .ensures .0 ∙ output Numbered.Commands (checks raw) (textOf raw) room fit _ _ answer lies short enough in
+    let left = put .ensures .1 .0 ∙ room-left Numbered.Commands (checks raw) (textOf raw) room fit _ _ answer lies short enough in
+    (ap (λ o. o .refused) told, (ap (λ o. o .bytes) told, left))
+
+pub put-printed-spec : {M : Type 1} → statement M
+put-printed-spec = tie.close (tie.spec list-text-requires put-outcome-requires same-length returns)

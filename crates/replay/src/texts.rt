@@ -1,0 +1,109 @@
+// The items with text: 0a assembles a raw list of one, 0b lists a raw list as one, 0c runs the kit's raw list and a typed one, 0d shows a line.
+use super::items::FILL;
+use super::items::State;
+use super::output;
+use super::rooms;
+use super::script;
+use bench::TypedRan;
+use text::Finding;
+use text::Translated;
+
+// Which way a list is translated: from a text to its raw list, or back.
+pub enum Way {
+    ToList,
+    ToText,
+}
+
+// A code, the line or command that it is of, and its parameter.
+fn finding(out: &mut [u8], used: usize, found: Finding) -> usize {
+    let told = found.told;
+    let used = output::number(out, used, told.code as u64);
+    let used = output::number(out, used, found.number as u64);
+    output::number(out, used, told.par as u64)
+}
+
+// The end of a translation's line, ` CODE NUMBER PAR` and the bytes written, and the rest of the room.
+fn translated_lines(out: &mut [u8], used: usize, translated: Translated, room: &[u8]) -> usize {
+    let size = text::bytes_of(translated);
+    let used = finding(out, used, text::finding_of(translated));
+    let used = output::hex(out, used, script::front(room, size));
+    let used = output::end(out, used);
+    rooms::rest_line(out, used, room, size)
+}
+
+fn translated(out: &mut [u8], used: usize, way: Way, bytes: &[u8], room: &mut [u8]) -> usize {
+    match way {
+        Way::ToList => {
+            let used = output::text(out, used, b"assembled");
+            let translated = text::assemble(bytes, room);
+            translated_lines(out, used, translated, room)
+        }
+        Way::ToText => {
+            let used = output::text(out, used, b"listed");
+            let translated = text::list_text(bytes, room);
+            translated_lines(out, used, translated, room)
+        }
+    }
+}
+
+// 0a, a room's length of two bytes, and a text: `assembled CODE LINE PAR` and the bytes of its list, and a line `rest`.
+// 0b, a room's length of two bytes, and a raw list: `listed CODE NUMBER PAR` and the bytes of its text, and a line `rest`.
+pub fn translate(state: State, s: &[u8], out: &mut [u8], way: Way) -> State {
+    let length = script::take(s, state.at, 2);
+    let bytes = script::take_long(s, length.to);
+    if !bytes.whole {
+        return state.bad(out);
+    }
+    let mut room = [FILL; rooms::LARGEST];
+    let length = rooms::capped(words::half_at(s, length.from));
+    let list = script::bytes(s, bytes);
+    let used = translated(out, state.used, way, list, &mut room[0..length]);
+    state.answered(bytes.to, used)
+}
+
+fn typed_lines(out: &mut [u8], used: usize, ran: TypedRan, room: &[u8]) -> usize {
+    let begun = ran.begun;
+    let used = output::text(out, used, b"typed");
+    let used = finding(out, used, bench::finding_of(begun));
+    rooms::report_lines(out, used, ran.kit, ran.pupil, room)
+}
+
+fn carried(state: State, out: &mut [u8], kit: &[u8], text: &[u8], room: &mut [u8]) -> State {
+    let bench = state.bench;
+    let ran = bench.run_typed(kit, text, room);
+    let used = typed_lines(out, state.used, ran, room);
+    let bench = ran.bench;
+    State {
+        bench,
+        used,
+        ..state
+    }
+}
+
+// 0c, a room's length of two bytes, the kit's raw list and a text: `typed CODE LINE PAR KIT PUPIL`, then the records and the rest as 03 has them.
+pub fn run(state: State, s: &[u8], out: &mut [u8]) -> State {
+    let length = script::take(s, state.at, 2);
+    let kit = script::take_long(s, length.to);
+    let text = script::take_long(s, kit.to);
+    if !text.whole {
+        return state.bad(out);
+    }
+    let mut room = [FILL; rooms::LARGEST];
+    let length = rooms::capped(words::half_at(s, length.from));
+    let state = state.answered(text.to, state.used);
+    let kit = script::bytes(s, kit);
+    let text = script::bytes(s, text);
+    carried(state, out, kit, text, &mut room[0..length])
+}
+
+// 0d, a text and a number of four bytes: `line` and the bytes of that line, nothing behind it where there are none.
+pub fn line(state: State, s: &[u8], out: &mut [u8]) -> State {
+    let typed = script::take_long(s, state.at);
+    let number = script::take(s, typed.to, 4);
+    if !number.whole {
+        return state.bad(out);
+    }
+    let bytes = text::line_shown(script::bytes(s, typed), words::word_at(s, number.from));
+    let used = output::bytes_line(out, state.used, b"line", bytes);
+    state.answered(number.to, used)
+}

@@ -1,0 +1,27 @@
+-- Laws of typed text, in three groups: what a reader of this crate wants to know (the readings by example, the order of codes and findings, what the
+-- calls answer together, which lists the lister takes, that a goal said in text is that number, that an assembled list passes 1 to 10, that results
+-- are unique), the laws behind those, and the laws behind single functions.
+mod Examples
+pub mod LineOrder
+pub mod FirstFinding
+pub mod Calls
+pub mod Takes
+pub mod Goals
+pub mod Assembled
+pub mod Unique
+pub mod Found
+pub mod Splitting
+pub mod ByWords
+pub mod Allowed
+pub mod Saying
+pub mod Printed
+mod Texts
+mod Marks
+mod Digits
+mod Naming
+mod Decimal
+mod Lines
+pub mod Gathers
+mod Putting
+mod Listing
+mod ShownLine

@@ -1,0 +1,198 @@
+-- Which commands the text can say; and that it can say every command that a line says.
+use Prim.Native.Nat.{ℕ, _≤_, _<_, _^_}
+use mathlib.Core.Path.{_≡_, refl, sym, ap, subst, _∙_}
+use mathlib.Core.List.{List, [], _∷_, _++_}
+use mathlib.Core.Bool.{Bool, true, false, cond, _||_, _&&_, true≢false}
+use native.Mathlib.Omega.{arith}
+use lib.ListN.{length, getD, drop}
+use lib.Dec.{eqb, leb}
+use lib.Ieee.{binary32, ofBits}
+use lib.Ieee.Exact.{HasValue}
+use borrow.Author.Tests.{eqb-true, leb-true}
+use Rattle.wire.specs.declared.table.Form.{Form}
+use Rattle.wire.specs.declared.table.Layout.{Layout}
+use Rattle.wire.specs.declared.kinds.Command.{Command}
+use Rattle.wire.specs.declared.kinds.Parts.{Parts}
+use Rattle.wire.specs.Table.{rowOf, argumentsOf}
+use Rattle.wire.specs.Kind.{partsOf, kindOf}
+use Rattle.wire.specs.Judge.{inLimits, firstBad, judgedBy}
+use Rattle.wire.specs.Read.{Answer}
+use Rattle.text.specs.declared.goal.Quarters.{Quarters}
+use Rattle.text.specs.declared.names.Named.{Named}
+use Rattle.text.specs.declared.number.Number.{Number}
+use Rattle.text.specs.Split.{space}
+use Rattle.text.specs.Number.{quartersOf}
+use Rattle.text.specs.Goal.{goalBits, quartersIn}
+use Rattle.text.specs.Names.{formNamed}
+use Rattle.text.specs.Line.{asBits, goalOf, firstOf, secondOf, lineOf}
+use Rattle.text.specs.Assemble.{commandsIn}
+use Rattle.text.specs.Steps.{countOf, frontOf, behindOf, refused, judgedLine, readLine, knownLine, namedLine, typedLine, lineBy}
+use Rattle.text.proofs.Lines.{quarters-small}
+use Rattle.text.proofs.ByWords.{line-by}
+use Rattle.text.proofs.Allowed.{both-in, in-range, typed-parts}
+use Rattle.text.proofs.Goals.{goal-exact, bits-small, there-and-back}
+
+-- A goal that the text can say.
+pub record Says (bits : ℕ) : Type 0 where
+  pub quarters : ℕ
+  pub said : quartersIn bits ≡ Quarters.Said quarters
+
+-- What a layout's numbers are so that the text can say them.
+abbrev pub Sayable : Layout → ℕ → ℕ → Type 0
+Sayable Layout.Bare first second = Unit {0}
+Sayable Layout.Byte first second = Unit {0}
+Sayable Layout.Half first second = Unit {0}
+Sayable Layout.Halves first second = Unit {0}
+Sayable Layout.Singles first second = Says first × Says second
+
+-- A command whose goals can be said.
+abbrev pub CanSay : Command → Type 0
+CanSay c = Sayable (rowOf (partsOf (c .kind) .form) .layout) (partsOf (c .kind) .first) (partsOf (c .kind) .second)
+
+abbrev pub AllSay : List Command → Type 0
+AllSay [] = Unit {0}
+AllSay (c ∷ cs) = CanSay c × AllSay cs
+
+-- A goal as it was typed: the bits of so many quarters.
+record Goal (bits : ℕ) : Type 0 where
+  quarters : ℕ
+  small : quarters < 2 ^ 24
+  is : bits ≡ goalBits quarters
+
+-- A goal that was typed as q quarters has the bits of exactly that number, in range or not.
+pub typed-exact : (s : List ℕ) (q : ℕ) → quartersOf s ≡ Number.Whole q → HasValue (ofBits binary32 (goalBits q)) false q 4
+typed-exact s q typed = goal-exact q (omega (arith, quarters-small s q typed))
+
+-- Such bits are never those of minus zero.
+no-minus : (q : ℕ) → q < 2 ^ 24 → goalBits q ≡ 0x80000000 → ⊥
+unfolding ofBits
+no-minus q small e =
+    let has : HasValue (ofBits binary32 0x80000000) false q 4 = subst (λ b. HasValue (ofBits binary32 b) false q 4) e (goal-exact q small) in
+    true≢false (has .0)
+
+-- So one within the limits can be said.
+goal-says : (bits : ℕ) → Goal bits → inLimits Layout.Singles 0 0x447fffff bits ≡ true → Says bits
+goal-says bits goal fits = go (eqb bits 0x80000000) (leb 0 bits) (leb bits 0x447fffff) refl refl fits
+  where
+    go : (minus any low : Bool) → eqb bits 0x80000000 ≡ minus → leb bits 0x447fffff ≡ low → (minus || (any && low)) ≡ true → Says bits
+    go true any low is low-is fits = absurd (no-minus (goal .quarters) (goal .small) (sym (goal .is) ∙ eqb-true bits 0x80000000 is))
+    go false true true is low-is fits =
+        let below : goalBits (goal .quarters) ≤ 0x447fffff = subst (λ b. b ≤ 0x447fffff) (goal .is) (leb-true bits 0x447fffff low-is) in
+        record {
+          quarters = goal .quarters;
+          said = ap quartersIn (goal .is) ∙ there-and-back (goal .quarters) (bits-small (goal .quarters) (goal .small) below);
+        }
+    go false true false is low-is fits = absurd (true≢false (sym fits))
+    go false false low is low-is fits = absurd (true≢false (sym fits))
+
+-- The numbers of a line, by its layout.
+abbrev Typed : Layout → ℕ → ℕ → Type 0
+Typed Layout.Bare first second = Unit {0}
+Typed Layout.Byte first second = Unit {0}
+Typed Layout.Half first second = Unit {0}
+Typed Layout.Halves first second = Unit {0}
+Typed Layout.Singles first second = Goal first × Goal second
+
+goal-typed : (s : List ℕ) (bits : ℕ) → goalOf s ≡ Number.Whole bits → Goal bits
+goal-typed s bits e = go (quartersOf s) refl e
+  where
+    go : (n : Number) → quartersOf s ≡ n → asBits n ≡ Number.Whole bits → Goal bits
+    go (Number.Whole q) is e =
+        let same : goalBits q ≡ bits = cc in
+        record { quarters = q; small = omega (arith, quarters-small s q is); is = sym same }
+    go Number.Malformed is e = absurd (let z : _≡_ {A = ℕ} 0 1 = cc in omega arith)
+
+both-typed : (l : Layout) (s t : List ℕ) (first second : ℕ) → firstOf l s ≡ Number.Whole first → secondOf l t ≡ Number.Whole second → Typed l first second
+both-typed Layout.Bare s t first second one two = tt
+both-typed Layout.Byte s t first second one two = tt
+both-typed Layout.Half s t first second one two = tt
+both-typed Layout.Halves s t first second one two = tt
+both-typed Layout.Singles s t first second one two = (goal-typed s first one, goal-typed t second two)
+
+-- Each branch of the code: the command that it gives, if any, can be said.
+numbers-say : (form : Form) (first second : ℕ) → Typed (rowOf form .layout) first second → firstBad (rowOf form) first second ≡ 0
+    → Sayable (rowOf form .layout) first second
+numbers-say Form.ImgPwr first second typed fine = tt
+numbers-say Form.ImgRegion first second typed fine = tt
+numbers-say Form.ImgTrack first second typed fine = tt
+numbers-say Form.TrkAlg first second typed fine = tt
+numbers-say Form.TrkLoop first second typed fine = tt
+numbers-say Form.ImgImage first second typed fine = tt
+numbers-say Form.TrkGoal first second typed fine =
+    let fit = both-in (rowOf Form.TrkGoal) first second fine in
+    (goal-says first (typed .0) (fit .0), goal-says second (typed .1) (fit .1))
+numbers-say Form.TlmFlush first second typed fine = tt
+numbers-say Form.FlushAuto first second typed fine = tt
+numbers-say Form.Open first second typed fine = tt
+numbers-say Form.Close first second typed fine = tt
+numbers-say Form.Run first second typed fine = tt
+numbers-say Form.Wait first second typed fine = tt
+numbers-say Form.Stop first second typed fine = tt
+numbers-say Form.Clear first second typed fine = tt
+
+judged-says : (form : Form) (flag : Bool) (first second : ℕ) → Typed (rowOf form .layout) first second → AllSay (judgedLine form flag first second .taken)
+judged-says form flag first second typed = go (eqb (judgedBy (rowOf form) flag first second .code) 0) refl
+  where
+    go : (b : Bool) → eqb (judgedBy (rowOf form) flag first second .code) 0 ≡ b
+        → AllSay (cond b (record { flag = flag; kind = kindOf form first second } ∷ []) [])
+    go true is =
+        let code = eqb-true (judgedBy (rowOf form) flag first second .code) 0 is in (
+          subst (λ (p : Parts). Sayable (rowOf (p .form) .layout) (p .first) (p .second)) (sym (typed-parts form flag first second code))
+              (numbers-say form first second typed (in-range form flag first second code)),
+          tt,
+        )
+    go false is = tt
+
+read-says : (form : Form) (flag : Bool) (s t : List ℕ)
+    → AllSay (readLine form flag (firstOf (rowOf form .layout) s) (secondOf (rowOf form .layout) t) .taken)
+read-says form flag s t = go (firstOf (rowOf form .layout) s) (secondOf (rowOf form .layout) t) refl refl
+  where
+    go : (a b : Number) → firstOf (rowOf form .layout) s ≡ a → secondOf (rowOf form .layout) t ≡ b → AllSay (readLine form flag a b .taken)
+    go (Number.Whole first) (Number.Whole second) one two = judged-says form flag first second (both-typed (rowOf form .layout) s t first second one two)
+    go (Number.Whole first) Number.Malformed one two = tt
+    go Number.Malformed b one two = tt
+
+known-says : (form : Form) (flag : Bool) (body : List ℕ) → AllSay (knownLine form flag body .taken)
+unfolding knownLine
+known-says form flag body = go (eqb (countOf space body) (argumentsOf (rowOf form .layout)))
+  where
+    go : (b : Bool)
+        → AllSay
+        (cond b
+        (readLine form flag (firstOf (rowOf form .layout) (frontOf space (behindOf space body)))
+        (secondOf (rowOf form .layout) (frontOf space (behindOf space (behindOf space body)))))
+        (refused 32) .taken)
+    go true = read-says form flag (frontOf space (behindOf space body)) (frontOf space (behindOf space (behindOf space body)))
+    go false = tt
+
+named-says : (n : Named) (flag : Bool) (body : List ℕ) → AllSay (namedLine n flag body .taken)
+named-says (Named.Known form) flag body = known-says form flag body
+named-says Named.Unknown flag body = tt
+
+typed-says : (flag : Bool) (body : List ℕ) → AllSay (typedLine flag body .taken)
+unfolding typedLine
+typed-says flag body = named-says (formNamed (frontOf space body)) flag body
+
+by-says : (s : List ℕ) → AllSay (lineBy s .taken)
+unfolding lineBy
+by-says s = go (eqb (length s) 0) (eqb (getD s 0 0) 35) (eqb (getD s 0 0) 43)
+  where
+    go : (empty comment flag : Bool)
+        → AllSay (cond empty (refused 0) (cond comment (refused 0) (cond flag (typedLine true (drop 1 s)) (typedLine false s))) .taken)
+    go true comment flag = tt
+    go false true flag = tt
+    go false false true = typed-says true (drop 1 s)
+    go false false false = typed-says false s
+
+-- Every command of a text can be said.
+pub line-says : (s : List ℕ) → AllSay (lineOf s .taken)
+line-says s = subst (λ (a : Answer). AllSay (a .taken)) (line-by s) (by-says s)
+
+all-append : (xs ys : List Command) → AllSay xs → AllSay ys → AllSay (xs ++ ys)
+all-append [] ys first second = second
+all-append (x ∷ xs) ys first second = (first .0, all-append xs ys (first .1) second)
+
+pub commands-say : (ls : List (List ℕ)) → AllSay (commandsIn ls)
+unfolding commandsIn
+commands-say [] = tt
+commands-say (l ∷ ls) = all-append (lineOf l .taken) (commandsIn ls) (line-says l) (commands-say ls)

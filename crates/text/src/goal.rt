@@ -1,0 +1,45 @@
+// Goals: from quarters to the bits of the single, and back.
+ghost use Prim.Native.Nat.{_≤_, _<_};
+ghost use mathlib.Core.Path.{_≡_};
+ghost use Rattle.text.specs.Goal.{goalBits, quartersIn};
+ghost use Rattle.text.specs.Steps.{guessOf};
+
+pub enum Quarters {
+    Said(u32),
+    Unsaid,
+}
+
+// The bits of the single that is so many quarters.
+pub fn goal_bits(quarters: u32) -> u32
+    requires { ⌜ quarters ≤ 16777216 ⌝ }
+    ensures { λ r. ⌜ r ≡ goalBits quarters ⌝ }
+{
+    let whole = quarters as f32;
+    let four: f32 = 4.0;
+    f32::to_bits(whole / four)
+}
+
+// The whole quarters in the single with these bits.
+fn guess_of(bits: u32) -> u32
+    requires { ⌜ bits ≤ 0x447fffff ⌝ }
+    ensures { λ r. ⌜ r ≡ guessOf bits ⌝ }
+{
+    if bits < 0x3e80_0000 {
+        return 0;
+    }
+    (bits % 0x0080_0000 + 0x0080_0000) >> (148 - bits / 0x0080_0000)
+}
+
+// The quarters that have these bits.
+pub fn quarters_in(bits: u32) -> Quarters
+    ensures { λ r. ⌜ r ≡ quartersIn bits ⌝ }
+{
+    if 0x447f_ffff < bits {
+        return Quarters::Unsaid;
+    }
+    let guess = guess_of(bits);
+    if goal_bits(guess) == bits {
+        return Quarters::Said(guess);
+    }
+    Quarters::Unsaid
+}

@@ -1,0 +1,2 @@
+-- Laws of the program for typed lists: when it refuses, and what it prints.
+pub mod Printed

@@ -1,0 +1,2 @@
+-- What the program for typed lists prints.
+pub mod Printed
