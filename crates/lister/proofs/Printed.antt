@@ -14,17 +14,17 @@ use Rattle.wire.specs.Read.{said}
 use Rattle.wire.proofs.Front.{Bytes}
 use Rattle.walk.specs.Walk.{rests}
 use Rattle.text.specs.Findings.{whole, firstFound, outcomeFor}
-use Rattle.text.specs.Lister.{textOf, listFindings, listedAs, listedRoom}
+use Rattle.text.specs.Lister.{textOf, rawFindings, listFindings, listedAs, listedRoom}
 use Rattle.text.proofs.Found.{found-silent, silent-found}
 use Rattle.text.proofs.Takes.{Takes, takes, all-listed, bytes-said}
 use Rattle.text.proofs.Calls.{text-short}
-use Rattle.lister.specs.Printed.{checks, found}
+use Rattle.lister.specs.Printed.{found}
 
 -- A list that passes is taken into any room that its text has room in, as into one of that very length.
 taken : (raw : List ℕ) → found raw .told .code ≡ 0 → Takes raw (textOf raw)
 unfolding listedAs
 taken raw none =
-    let passed = found-silent (checks raw) none in
+    let passed = found-silent (rawFindings raw) none in
     let room-for : hasRoom (textOf raw) (textOf raw) ≡ true = le-leb (length (textOf raw)) (length (textOf raw)) (omega arith) in
     let last : whole (24 when not (hasRoom (textOf raw) (textOf raw))) .told .code ≡ 0 = ap (λ b. whole (24 when not b) .told .code) room-for in
     takes raw (textOf raw) .0 (ap (λ f. f .told .code) (silent-found (listFindings raw (textOf raw)) (passed .0, (passed .1 .0, (last, tt)))))

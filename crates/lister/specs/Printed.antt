@@ -1,22 +1,17 @@
 -- What the lister writes (02, Q-1).
 use Prim.Native.Nat.{ℕ}
-use mathlib.Core.List.{List, [], _∷_}
+use mathlib.Core.List.{List}
 use mathlib.Core.Bool.{Bool, not}
-use lib.ListN.{length}
-use lib.Dec.{eqb, ltb}
-use Rattle.wire.specs.Codes.{_when_}
+use lib.Dec.{eqb}
 use Rattle.text.specs.declared.findings.Finding.{Finding}
-use Rattle.text.specs.Findings.{whole, firstFound}
-use Rattle.text.specs.Lister.{badCommand, textOf}
+use Rattle.text.specs.Findings.{firstFound}
+use Rattle.text.specs.Lister.{rawFindings, textOf}
 use Rattle.listing.specs.declared.refusals.Numbered.{Numbered}
 use Rattle.listing.specs.Refusal.{printedFor}
 
--- What is wrong with a raw list: 20, then the first command that cannot be listed.
-abbrev pub checks : List ℕ → List Finding
-checks raw = whole (20 when ltb 4096 (length raw)) ∷ badCommand raw ∷ []
-
+-- What is found wrong with a raw list: 20, then the first command that cannot be listed.
 abbrev pub found : List ℕ → Finding
-found raw = firstFound (checks raw)
+found raw = firstFound (rawFindings raw)
 
 abbrev pub refused : List ℕ → Bool
 refused raw = not (eqb (found raw .told .code) 0)

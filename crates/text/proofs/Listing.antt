@@ -8,7 +8,7 @@ use native.Mathlib.Omega.{arith}
 use native.Mathlib.Numerals.{add-one}
 use lib.ListN.{length, take, drop, length-append, length-drop, drop-of-length-le}
 use lib.Seq.{sets, sets-eq, length-sets, drop-drop, take-at, length-take-le}
-use lib.Dec.{eqb, ltb}
+use lib.Dec.{eqb}
 use borrow.Author.Tests.{eq-eqb, eqb-true, eqb-false, lt-ltb, le-ltb}
 use Rattle.words.specs.BigEndian.{wordAt, hasRoom, written}
 use Rattle.wire.specs.declared.table.Found.{Found}
@@ -35,7 +35,7 @@ use Rattle.text.specs.declared.findings.Translated.{Translated}
 use Rattle.text.specs.declared.printing.Offer.{Offer}
 use Rattle.text.specs.Split.{lineFeed}
 use Rattle.text.specs.Findings.{noRoom, finding, nothing, whole, firstFound, toldFault, Outcome, outcome, outcomeFor, translatedOf}
-use Rattle.text.specs.Lister.{canSay, lineText, listText, textOf, listChecks, listTold, commandFindings, badCommand, listedAs, listedRoom}
+use Rattle.text.specs.Lister.{canSay, lineText, listText, textOf, listChecks, listTold, commandFindings, badCommand, rawFindings, listedAs, listedRoom}
 use Rattle.text.specs.ListSteps.{endedLine, offerOf, offeredAt, judgedList, Lined}
 use Rattle.text.proofs.Found.{fault-code, found-append}
 use Rattle.text.proofs.Putting.{Puts, line-short}
@@ -286,7 +286,7 @@ module _ (raw room : List ℕ) where
   unfolding listedAs judgedList
   listed-from =
       ap (λ f. outcomeFor f (length (textOf raw)))
-      (found-append (whole (20 when ltb 4096 (length raw)) ∷ badCommand raw ∷ []) (short-room ∷ []))
+      (found-append (rawFindings raw) (short-room ∷ []))
 
   pub ends-refused : (f : Finding) → outcome f 0 ≡ judgedList raw → eqb (f .told .code) 0 ≡ false
       → (outcome f 0 ≡ listedAs raw room) × (room ≡ listedRoom raw room)

@@ -1,4 +1,4 @@
--- A goal's bits: those of the single nearest to so many quarters, which is exactly that number (proofs/Goals, `single-exact`).
+-- A goal's bits: those of the single nearest to so many quarters, which is exactly that number (proofs/Goals, `goal-exact`).
 use Prim.Native.Nat.{ℕ, zero, suc}
 use mathlib.Core.Bool.{false, cond}
 use lib.Dec.{eqb}

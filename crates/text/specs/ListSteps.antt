@@ -5,16 +5,15 @@ use mathlib.Core.Path.{_≡_}
 use mathlib.Core.List.{List, [], _∷_, _++_}
 use mathlib.Core.Bool.{Bool, true, false, cond}
 use lib.ListN.{length, take}
-use lib.Dec.{eqb, ltb}
+use lib.Dec.{eqb}
 use Rattle.wire.specs.declared.kinds.Command.{Command}
-use Rattle.wire.specs.Codes.{_when_}
 use Rattle.wire.specs.Judge.{toldWith}
 use Rattle.wire.specs.Read.{Answer, said}
 use Rattle.text.specs.declared.findings.Translated.{Translated}
 use Rattle.text.specs.declared.printing.Offer.{Offer}
 use Rattle.text.specs.Split.{lineFeed}
-use Rattle.text.specs.Findings.{whole, toldFault, firstFound, Outcome, outcomeFor, translatedOf}
-use Rattle.text.specs.Lister.{lineText, textOf, listTold, badCommand}
+use Rattle.text.specs.Findings.{toldFault, firstFound, Outcome, outcomeFor, translatedOf}
+use Rattle.text.specs.Lister.{lineText, textOf, listTold, rawFindings}
 
 -- The mark of the macro flag.
 abbrev pub mark : Bool → List ℕ
@@ -35,7 +34,7 @@ offeredAt s = record { told = listTold s; taken = cond (eqb (listTold s .code) 0
 
 -- A list judged by itself, without a room: how many bytes its text has, or why there is none.
 unfoldable pub judgedList : List ℕ → Outcome
-judgedList raw = outcomeFor (firstFound (whole (20 when ltb 4096 (length raw)) ∷ badCommand raw ∷ [])) (length (textOf raw))
+judgedList raw = outcomeFor (firstFound (rawFindings raw)) (length (textOf raw))
 
 -- What `gather_lines` leaves: the judgement on a list, and its text at the front of the buffer.
 pub record Lined (raw buffer : List ℕ) (judgement : Translated) : Type 0 where

@@ -100,13 +100,13 @@ commandFindings n (r ∷ rs) = finding (listTold r) n ∷ commandFindings (suc n
 abbrev pub badCommand : List ℕ → Finding
 badCommand raw = firstFound (commandFindings 1 (rests raw))
 
--- "20 first, for .. a raw list above 4,096", the first bad command, "24 last".
+-- "20 first, for .. a raw list above 4,096", the first bad command,
+abbrev pub rawFindings : List ℕ → List Finding
+rawFindings raw = whole (20 when ltb 4096 (length raw)) ∷ badCommand raw ∷ []
+
+-- "24 last."
 abbrev pub listFindings : List ℕ → List ℕ → List Finding
-listFindings raw room =
-    whole (20 when ltb 4096 (length raw))
-    ∷ badCommand raw
-    ∷ whole (24 when not (hasRoom (textOf raw) room))
-    ∷ []
+listFindings raw room = rawFindings raw ++ (whole (24 when not (hasRoom (textOf raw) room)) ∷ [])
 
 unfoldable pub listedAs : List ℕ → List ℕ → Outcome
 listedAs raw room = outcomeFor (firstFound (listFindings raw room)) (length (textOf raw))

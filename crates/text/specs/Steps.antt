@@ -88,7 +88,7 @@ namedLine Named.Unknown flag body = refused 30
 unfoldable pub typedLine : Bool → List ℕ → Answer
 typedLine flag body = namedLine (formNamed (frontOf space body)) flag body
 
--- A line, branch by branch. That it says what the checks say is proved in proofs/Lines.
+-- A line, branch by branch. That it says what the checks say is proved in proofs/ByWords (`line-by`).
 unfoldable pub lineBy : List ℕ → Answer
 lineBy s =
     cond (eqb (length s) 0) (refused 0)

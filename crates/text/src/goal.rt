@@ -4,6 +4,16 @@ ghost use mathlib.Core.Path.{_≡_};
 ghost use Rattle.text.specs.Goal.{goalBits, quartersIn};
 ghost use Rattle.text.specs.Steps.{guessOf};
 
+// The bits of the largest goal, and of a quarter, the smallest that text can say but 0.
+const LAST_GOAL: u32 = 0x447f_ffff;
+
+const QUARTER: u32 = 0x3e80_0000;
+
+// The weight of a single's exponent field, which its leading digit has too; and the field of a single whose digits are worth a quarter each.
+const FIELD: u32 = 0x0080_0000;
+
+const QUARTERS_FIELD: u32 = 148;
+
 pub enum Quarters {
     Said(u32),
     Unsaid,
@@ -24,17 +34,17 @@ fn guess_of(bits: u32) -> u32
     requires { ⌜ bits ≤ 0x447fffff ⌝ }
     ensures { λ r. ⌜ r ≡ guessOf bits ⌝ }
 {
-    if bits < 0x3e80_0000 {
+    if bits < QUARTER {
         return 0;
     }
-    (bits % 0x0080_0000 + 0x0080_0000) >> (148 - bits / 0x0080_0000)
+    (bits % FIELD + FIELD) >> (QUARTERS_FIELD - bits / FIELD)
 }
 
 // The quarters that have these bits.
 pub fn quarters_in(bits: u32) -> Quarters
     ensures { λ r. ⌜ r ≡ quartersIn bits ⌝ }
 {
-    if 0x447f_ffff < bits {
+    if LAST_GOAL < bits {
         return Quarters::Unsaid;
     }
     let guess = guess_of(bits);

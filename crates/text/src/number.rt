@@ -17,6 +17,16 @@ struct Digits {
 
 const MOST_DIGITS: usize = 5;
 
+// The bytes of the first and the last digit, and the base.
+const ZERO: u32 = 48;
+
+const NINE: u32 = 57;
+
+const TEN: u32 = 10;
+
+// Quarters in a whole.
+const WHOLE: u32 = 4;
+
 fn wide(b: u8) -> u32
     ensures { λ r. ⌜ r ≡ b ⌝ }
 {
@@ -33,13 +43,13 @@ fn digits_of(part: &[u8]) -> Digits
             return Digits { value, count };
         }
         let b = wide(part[count]);
-        if b < 48 {
+        if b < ZERO {
             return Digits { value, count };
         }
-        if 57 < b {
+        if NINE < b {
             return Digits { value, count };
         }
-        value = value * 10 + (b - 48);
+        value = value * TEN + (b - ZERO);
         count += 1;
     }
     Digits { value, count }
@@ -88,7 +98,7 @@ pub fn quarters_of(part: &[u8]) -> Number
         return Number::Malformed;
     }
     match fraction_of(&part[count..]) {
-        Number::Whole(quarters) => Number::Whole(digits.value * 4 + quarters),
+        Number::Whole(quarters) => Number::Whole(digits.value * WHOLE + quarters),
         Number::Malformed => Number::Malformed,
     }
 }

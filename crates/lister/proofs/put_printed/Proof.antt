@@ -4,11 +4,11 @@ use mathlib.Core.Path.{ap, _∙_}
 use native.Mathlib.Omega.{arith}
 use lib.ListN.{length}
 use borrow.Author.Needs.{needs}
-use Rattle.text.specs.Lister.{textOf}
+use Rattle.text.specs.Lister.{textOf, rawFindings}
 use Rattle.listing.specs.declared.refusals.Numbered.{Numbered}
 use Rattle.listing.specs.Refusal.{refusalRoom}
 use Rattle.listing.proofs.Outputs.{output, room-left}
-use Rattle.lister.specs.Printed.{checks, printed}
+use Rattle.lister.specs.Printed.{printed}
 use Rattle.lister.proofs.Printed.{fits, answered, stays}
 use Rattle.lister.proofs.put_printed.Statement.{statement}
 use Rattle.lister.proofs.put_printed.Tie as tie
@@ -35,8 +35,8 @@ returns c =
     let lies = made .list-text .ensures .1 ∙ stays raw room in
     let short = put .ensures .1 .1 in
     let enough : refusalRoom ≤ length room = omega (arith, start .pre) in
-    let told = put .ensures .0 ∙ output Numbered.Commands (checks raw) (textOf raw) room fit _ _ answer lies short enough in
-    let left = put .ensures .1 .0 ∙ room-left Numbered.Commands (checks raw) (textOf raw) room fit _ _ answer lies short enough in
+    let told = put .ensures .0 ∙ output Numbered.Commands (rawFindings raw) (textOf raw) room fit _ _ answer lies short enough in
+    let left = put .ensures .1 .0 ∙ room-left Numbered.Commands (rawFindings raw) (textOf raw) room fit _ _ answer lies short enough in
     (ap (λ o. o .refused) told, (ap (λ o. o .bytes) told, left))
 
 pub put-printed-spec : {M : Type 1} → statement M
