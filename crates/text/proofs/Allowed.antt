@@ -4,7 +4,7 @@ use mathlib.Core.Path.{_≡_, refl, sym, ap, subst, _∙_}
 use mathlib.Core.List.{List, [], _∷_, append-nil}
 use mathlib.Core.Bool.{Bool, true, false, cond, not, _&&_, _||_}
 use native.Mathlib.Omega.{arith}
-use lib.ListN.{length, getD, drop}
+use lib.ListN.{length}
 use lib.Dec.{T, eqb, leb}
 use lib.Ieee.{binary32, ofBits, toBits}
 use lib.Ieee.Bits.{toBits-ofBits, nanBits-is, nanBits-above}
@@ -16,20 +16,15 @@ use Rattle.wire.specs.declared.kinds.Command.{Command}
 use Rattle.wire.specs.declared.kinds.Parts.{Parts}
 use Rattle.wire.specs.Codes.{Check, _when_, firstOf as firstDue}
 use Rattle.wire.specs.Kind.{partsOf, kindOf, partsWith}
-use Rattle.wire.specs.Read.{Answer}
 use Rattle.wire.specs.Judge.{inLimits, firstBad, rowChecks, flagChecks, judgedBy, judgeCode}
 use Rattle.wire.proofs.Layouts.{IsBits, Within, parts-kind}
 use Rattle.wire.proofs.RoundTrip.{Held, kind-held}
 use Rattle.wire.proofs.Lengths.{length-command, row-words-most}
-use Rattle.text.specs.declared.names.Named.{Named}
-use Rattle.text.specs.declared.number.Number.{Number}
-use Rattle.wire.specs.Table.{rowOf, argumentsOf}
+use Rattle.wire.specs.Table.{rowOf}
 use Rattle.wire.specs.Write.{commandBytes, listBytes}
-use Rattle.text.proofs.ByWords.{line-by}
-use Rattle.text.specs.Line.{firstOf, secondOf, lineOf}
-use Rattle.text.specs.Names.{formNamed}
-use Rattle.text.specs.Split.{space}
-use Rattle.text.specs.Steps.{frontOf, behindOf, countOf, judgedLine, readLine, knownLine, namedLine, typedLine, lineBy}
+use Rattle.text.proofs.Branches.{line-any}
+use Rattle.text.specs.Line.{lineOf}
+use Rattle.text.specs.Steps.{judgedLine}
 
 -- Numbers within a plain layout's limits.
 plain : (low high v : ℕ) → (false || (leb low v && leb v high)) ≡ true → v ≤ high
@@ -142,43 +137,10 @@ judged-fine form flag first second = go (eqb (judgedBy (rowOf form) flag first s
   where
     go : (b : Bool) → eqb (judgedBy (rowOf form) flag first second .code) 0 ≡ b
         → Fine (cond b (record { flag = flag; kind = kindOf form first second } ∷ []) [])
-    go true is = one-command _ (kind-held form first second) (typed-allowed form flag first second (eqb-true (judgedBy (rowOf form) flag first second .code) 0 is))
+    go true is =
+        one-command _ (kind-held form first second)
+        (typed-allowed form flag first second (eqb-true (judgedBy (rowOf form) flag first second .code) 0 is))
     go false is = none
 
-read-fine : (form : Form) (flag : Bool) (a b : Number) → Fine (readLine form flag a b .taken)
-read-fine form flag (Number.Whole first) (Number.Whole second) = judged-fine form flag first second
-read-fine form flag (Number.Whole first) Number.Malformed = none
-read-fine form flag Number.Malformed b = none
-
-known-fine : (form : Form) (flag : Bool) (body : List ℕ) → Fine (knownLine form flag body .taken)
-unfolding knownLine
-known-fine form flag body = go (eqb (countOf space body) (argumentsOf (rowOf form .layout)))
-  where
-    go : (b : Bool) → Fine (cond b
-        (readLine form flag (firstOf (rowOf form .layout) (frontOf space (behindOf space body))) (secondOf (rowOf form .layout) (frontOf space (behindOf space (behindOf space body)))))
-        (Rattle.text.specs.Steps.refused 32) .taken)
-    go true =
-        read-fine form flag (firstOf (rowOf form .layout) (frontOf space (behindOf space body)))
-        (secondOf (rowOf form .layout) (frontOf space (behindOf space (behindOf space body))))
-    go false = none
-
-named-fine : (n : Named) (flag : Bool) (body : List ℕ) → Fine (namedLine n flag body .taken)
-named-fine (Named.Known form) flag body = known-fine form flag body
-named-fine Named.Unknown flag body = none
-
-typed-fine : (flag : Bool) (body : List ℕ) → Fine (typedLine flag body .taken)
-unfolding typedLine
-typed-fine flag body = named-fine (formNamed (frontOf space body)) flag body
-
-by-fine : (s : List ℕ) → Fine (lineBy s .taken)
-unfolding lineBy
-by-fine s = go (eqb (length s) 0) (eqb (getD s 0 0) 35) (eqb (getD s 0 0) 43)
-  where
-    go : (a b c : Bool) → Fine (cond a (Rattle.text.specs.Steps.refused 0) (cond b (Rattle.text.specs.Steps.refused 0) (cond c (typedLine true (drop 1 s)) (typedLine false s))) .taken)
-    go true b c = none
-    go false true c = none
-    go false false true = typed-fine true (drop 1 s)
-    go false false false = typed-fine false s
-
 pub line-fine : (s : List ℕ) → Fine (lineOf s .taken)
-line-fine s = subst (λ (a : Answer). Fine (a .taken)) (line-by s) (by-fine s)
+line-fine s = line-any Fine none (λ form flag one two first second first-is second-is. judged-fine form flag first second) s

@@ -15,6 +15,7 @@ use lib.Ieee.Scale.{round-same}
 use lib.Ieee.Bits.{ofBits-toBits}
 use lib.Ieee.Fits.{down-pos, round-fits}
 use borrow.Author.Tests.{leb-true, ltb-true, ltb-false, eqb-true, eqb-false, ne-eqb}
+use Rattle.words.proofs.Tests.{both}
 use Rattle.text.specs.declared.goal.Quarters.{Quarters}
 use Rattle.text.specs.Goal.{singleOf, goalBits, saidBelow, quartersIn}
 use Rattle.text.specs.Steps.{guessOf}
@@ -80,10 +81,6 @@ found q = eqb (guessOf (goalBits q)) q && leb (goalBits q) 0x447fffff
 each : allBelow 4096 found ≡ true
 unfolding allBelow goalBits
 each = refl
-
-both : (a b : Bool) → (a && b) ≡ true → (a ≡ true) × (b ≡ true)
-both true b e = (refl, e)
-both false b e = absurd (true≢false (sym e))
 
 below-each : (n : ℕ) (p : ℕ → Bool) → allBelow n p ≡ true → (q : ℕ) → q < n → p q ≡ true
 unfolding allBelow

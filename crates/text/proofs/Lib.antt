@@ -12,6 +12,7 @@ pub mod Unique
 pub mod Found
 pub mod Splitting
 pub mod ByWords
+mod Branches
 pub mod Allowed
 pub mod Saying
 pub mod Printed

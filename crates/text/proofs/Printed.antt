@@ -296,10 +296,6 @@ name-one-line Form.Wait = refl
 name-one-line Form.Stop = refl
 name-one-line Form.Clear = refl
 
-feed-mark : (s : List ℕ) → countOf 10 (32 ∷ s) ≡ countOf 10 s
-unfolding countOf
-feed-mark s = refl
-
 arguments-one-line : (l : Layout) (first second : ℕ) → Sayable l first second → countOf 10 (argumentsText l first second) ≡ 0
 unfolding countOf
 arguments-one-line Layout.Bare first second says = refl

@@ -4,7 +4,6 @@ use mathlib.Core.Path.{_≡_, refl, sym, ap, subst, _∙_}
 use mathlib.Core.List.{List, [], _∷_, _++_}
 use mathlib.Core.Bool.{Bool, true, false, cond, _||_, _&&_, true≢false}
 use native.Mathlib.Omega.{arith}
-use lib.ListN.{length, getD, drop}
 use lib.Dec.{eqb, leb}
 use lib.Ieee.{binary32, ofBits}
 use lib.Ieee.Exact.{HasValue}
@@ -13,22 +12,18 @@ use Rattle.wire.specs.declared.table.Form.{Form}
 use Rattle.wire.specs.declared.table.Layout.{Layout}
 use Rattle.wire.specs.declared.kinds.Command.{Command}
 use Rattle.wire.specs.declared.kinds.Parts.{Parts}
-use Rattle.wire.specs.Table.{rowOf, argumentsOf}
+use Rattle.wire.specs.Table.{rowOf}
 use Rattle.wire.specs.Kind.{partsOf, kindOf}
 use Rattle.wire.specs.Judge.{inLimits, firstBad, judgedBy}
-use Rattle.wire.specs.Read.{Answer}
 use Rattle.text.specs.declared.goal.Quarters.{Quarters}
-use Rattle.text.specs.declared.names.Named.{Named}
 use Rattle.text.specs.declared.number.Number.{Number}
-use Rattle.text.specs.Split.{space}
 use Rattle.text.specs.Number.{quartersOf}
 use Rattle.text.specs.Goal.{goalBits, quartersIn}
-use Rattle.text.specs.Names.{formNamed}
 use Rattle.text.specs.Line.{asBits, goalOf, firstOf, secondOf, lineOf}
 use Rattle.text.specs.Assemble.{commandsIn}
-use Rattle.text.specs.Steps.{countOf, frontOf, behindOf, refused, judgedLine, readLine, knownLine, namedLine, typedLine, lineBy}
+use Rattle.text.specs.Steps.{judgedLine}
 use Rattle.text.proofs.Lines.{quarters-small}
-use Rattle.text.proofs.ByWords.{line-by}
+use Rattle.text.proofs.Branches.{line-any}
 use Rattle.text.proofs.Allowed.{both-in, in-range, typed-parts}
 use Rattle.text.proofs.Goals.{goal-exact, bits-small, there-and-back}
 
@@ -143,50 +138,13 @@ judged-says form flag first second typed = go (eqb (judgedBy (rowOf form) flag f
         )
     go false is = tt
 
-read-says : (form : Form) (flag : Bool) (s t : List ℕ)
-    → AllSay (readLine form flag (firstOf (rowOf form .layout) s) (secondOf (rowOf form .layout) t) .taken)
-read-says form flag s t = go (firstOf (rowOf form .layout) s) (secondOf (rowOf form .layout) t) refl refl
-  where
-    go : (a b : Number) → firstOf (rowOf form .layout) s ≡ a → secondOf (rowOf form .layout) t ≡ b → AllSay (readLine form flag a b .taken)
-    go (Number.Whole first) (Number.Whole second) one two = judged-says form flag first second (both-typed (rowOf form .layout) s t first second one two)
-    go (Number.Whole first) Number.Malformed one two = tt
-    go Number.Malformed b one two = tt
-
-known-says : (form : Form) (flag : Bool) (body : List ℕ) → AllSay (knownLine form flag body .taken)
-unfolding knownLine
-known-says form flag body = go (eqb (countOf space body) (argumentsOf (rowOf form .layout)))
-  where
-    go : (b : Bool)
-        → AllSay
-        (cond b
-        (readLine form flag (firstOf (rowOf form .layout) (frontOf space (behindOf space body)))
-        (secondOf (rowOf form .layout) (frontOf space (behindOf space (behindOf space body)))))
-        (refused 32) .taken)
-    go true = read-says form flag (frontOf space (behindOf space body)) (frontOf space (behindOf space (behindOf space body)))
-    go false = tt
-
-named-says : (n : Named) (flag : Bool) (body : List ℕ) → AllSay (namedLine n flag body .taken)
-named-says (Named.Known form) flag body = known-says form flag body
-named-says Named.Unknown flag body = tt
-
-typed-says : (flag : Bool) (body : List ℕ) → AllSay (typedLine flag body .taken)
-unfolding typedLine
-typed-says flag body = named-says (formNamed (frontOf space body)) flag body
-
-by-says : (s : List ℕ) → AllSay (lineBy s .taken)
-unfolding lineBy
-by-says s = go (eqb (length s) 0) (eqb (getD s 0 0) 35) (eqb (getD s 0 0) 43)
-  where
-    go : (empty comment flag : Bool)
-        → AllSay (cond empty (refused 0) (cond comment (refused 0) (cond flag (typedLine true (drop 1 s)) (typedLine false s))) .taken)
-    go true comment flag = tt
-    go false true flag = tt
-    go false false true = typed-says true (drop 1 s)
-    go false false false = typed-says false s
-
 -- Every command of a text can be said.
 pub line-says : (s : List ℕ) → AllSay (lineOf s .taken)
-line-says s = subst (λ (a : Answer). AllSay (a .taken)) (line-by s) (by-says s)
+line-says s =
+    line-any AllSay tt
+    (λ form flag one two first second first-is second-is.
+    judged-says form flag first second (both-typed (rowOf form .layout) one two first second first-is second-is))
+    s
 
 all-append : (xs ys : List Command) → AllSay xs → AllSay ys → AllSay (xs ++ ys)
 all-append [] ys first second = second

@@ -4,7 +4,7 @@ use Prim.Native.Nat.{ℕ, zero, suc, _+_, _/_, _%_, _^_, _≤_, _<_}
 use mathlib.Core.Path.{_≡_, refl, sym, ap, _∙_}
 use mathlib.Core.Logic.{_↔_}
 use mathlib.Core.List.{List, [], _∷_, _++_, map, append-nil}
-use mathlib.Core.Bool.{Bool, true, false, cond, not, _&&_}
+use mathlib.Core.Bool.{Bool, true, false, cond, not}
 use native.Mathlib.Omega.{arith}
 use lib.ListN.{length, getD, take, length-drop, take-append-drop}
 use lib.Dec.{ltb}
@@ -12,6 +12,7 @@ use borrow.Author.Tests.{le-leb, leb-true, le-ltb, ltb-false}
 use Rattle.words.specs.BigEndian.{byteAt, hasRoom}
 use Rattle.words.specs.Text.{ascii, decimalIn, decimal}
 use Rattle.words.proofs.Decimal.{no-leading-zero}
+use Rattle.words.proofs.Tests.{both}
 use Rattle.wire.specs.declared.table.Layout.{Layout}
 use Rattle.wire.specs.declared.kinds.Command.{Command}
 use Rattle.wire.specs.Codes.{_when_}
@@ -105,18 +106,14 @@ says-one bits e = go (quartersIn bits) refl e
     go (Quarters.Said q) is e = record { quarters = q; said = is }
     go Quarters.Unsaid is e = absurd (let z : _≡_ {A = ℕ} 0 1 = cc in omega arith)
 
-says-both : (a b : Bool) → (a && b) ≡ true → (a ≡ true) × (b ≡ true)
-says-both true b e = (refl, e)
-says-both false b e = absurd (let z : _≡_ {A = ℕ} 0 1 = cc in omega arith)
-
 says-all : (l : Layout) (first second : ℕ) → sayable l first second ≡ true → Sayable l first second
 says-all Layout.Bare first second e = tt
 says-all Layout.Byte first second e = tt
 says-all Layout.Half first second e = tt
 says-all Layout.Halves first second e = tt
 says-all Layout.Singles first second e =
-    let both = says-both (isSaid (quartersIn first)) (isSaid (quartersIn second)) e in
-    (says-one first (both .0), says-one second (both .1))
+    let says = both (isSaid (quartersIn first)) (isSaid (quartersIn second)) e in
+    (says-one first (says .0), says-one second (says .1))
 
 can-say : (c : Command) → canSay c ≡ true → CanSay c
 can-say c e = says-all (rowOf (partsOf (c .kind) .form) .layout) (partsOf (c .kind) .first) (partsOf (c .kind) .second) e

@@ -1,8 +1,11 @@
-// Goals: from quarters to the bits of the single, and back.
-ghost use Prim.Native.Nat.{_≤_, _<_};
+// Goals: from text to quarters and the bits of the single, and back.
+ghost use Prim.Native.Nat.{_≤_};
 ghost use mathlib.Core.Path.{_≡_};
 ghost use Rattle.text.specs.Goal.{goalBits, quartersIn};
+ghost use Rattle.text.specs.Line.{goalOf};
 ghost use Rattle.text.specs.Steps.{guessOf};
+use super::number::Number;
+use super::number::quarters_of;
 
 // The bits of the largest goal, and of a quarter, the smallest that text can say but 0.
 const LAST_GOAL: u32 = 0x447f_ffff;
@@ -20,13 +23,23 @@ pub enum Quarters {
 }
 
 // The bits of the single that is so many quarters.
-pub fn goal_bits(quarters: u32) -> u32
+fn goal_bits(quarters: u32) -> u32
     requires { ⌜ quarters ≤ 16777216 ⌝ }
     ensures { λ r. ⌜ r ≡ goalBits quarters ⌝ }
 {
     let whole = quarters as f32;
     let four: f32 = 4.0;
     f32::to_bits(whole / four)
+}
+
+// A goal, as the bits of its single.
+pub fn goal_of(part: &[u8]) -> Number
+    ensures { λ r. ⌜ r ≡ goalOf (now (part .entry)) ⌝ }
+{
+    match quarters_of(part) {
+        Number::Whole(quarters) => Number::Whole(goal_bits(quarters)),
+        Number::Malformed => Number::Malformed,
+    }
 }
 
 // The whole quarters in the single with these bits.

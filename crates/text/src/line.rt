@@ -1,15 +1,14 @@
 // One line: codes 30, 32, 31, then 8 to 10.
 ghost use mathlib.Core.Path.{_≡_};
 ghost use Rattle.wire.specs.Table.{argumentsOf};
-ghost use Rattle.text.specs.Line.{goalOf, firstOf, secondOf, lineOf, answerLine};
+ghost use Rattle.text.specs.Line.{firstOf, secondOf, lineOf, answerLine};
 ghost use Rattle.text.specs.Split.{space};
 ghost use Rattle.text.specs.Steps.{runOf, upToThree, judgedLine, knownLine, typedLine};
 use super::findings::Fault;
-use super::goal::goal_bits;
+use super::goal::goal_of;
 use super::names::Named;
 use super::names::form_named;
 use super::number::Number;
-use super::number::quarters_of;
 use super::number::whole_of;
 use super::split::SPACE;
 use super::split::behind;
@@ -32,16 +31,6 @@ fn arguments_of(layout: wire::Layout) -> usize
         wire::Layout::Half => 1,
         wire::Layout::Halves => 2,
         wire::Layout::Singles => 2,
-    }
-}
-
-// A goal, as the bits of its single.
-fn goal_of(part: &[u8]) -> Number
-    ensures { λ r. ⌜ r ≡ goalOf (now (part .entry)) ⌝ }
-{
-    match quarters_of(part) {
-        Number::Whole(quarters) => Number::Whole(goal_bits(quarters)),
-        Number::Malformed => Number::Malformed,
     }
 }
 

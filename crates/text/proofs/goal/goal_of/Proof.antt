@@ -4,8 +4,8 @@ use native.Mathlib.Omega.{arith}
 use Rattle.text.specs.declared.number.Number.{Number}
 use Rattle.text.proofs.Lines.{quarters-small, as-bits}
 use borrow.Author.Needs.{needs}
-use Rattle.text.proofs.line.goal_of.Statement.{statement}
-use Rattle.text.proofs.line.goal_of.Tie as tie
+use Rattle.text.proofs.goal.goal_of.Statement.{statement}
+use Rattle.text.proofs.goal.goal_of.Tie as tie
 
 quarters-of-requires : tie.Need-quarters-of-requires
 quarters-of-requires c κs = search needs
