@@ -421,7 +421,7 @@ enum { ALL = 11, SIZES = 3 };
 
 static void make_jobs(struct job *jobs)
 {
-    jobs[0] = (struct job){ .name = "reading a command", .which = READ, .units = 1, .aim = 1.2 };
+    jobs[0] = (struct job){ .name = "reading a command", .which = READ, .units = 1, .aim = 1.0 };
     jobs[1] = (struct job){ .name = "writing a command", .which = WRITE, .units = 1, .aim = 1.2 };
     jobs[2] = (struct job){ .name = "reading a frame", .which = FRAME_READ, .units = 1, .aim = 1.2 };
     jobs[3] = (struct job){ .name = "writing a frame", .which = FRAME_WRITE, .units = 1, .aim = 1.2 };

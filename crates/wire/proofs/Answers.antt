@@ -3,7 +3,7 @@
 use Prim.Native.Nat.{ℕ, _*_, _-_, _^_, _≤_, _<_}
 use mathlib.Core.Path.{_≡_, refl, sym, ap, _∙_}
 use mathlib.Core.List.{List, [], _∷_}
-use mathlib.Core.Bool.{Bool, true, false, _||_}
+use mathlib.Core.Bool.{Bool, true, false, cond, not, _||_}
 use native.Mathlib.Omega.{arith}
 use lib.ListN.{length}
 use lib.Dec.{eqb, leb, ltb}
@@ -27,7 +27,7 @@ use Rattle.wire.specs.Codes.{Check, _when_, firstOf}
 use Rattle.wire.specs.Table.{rowOf, ruleOf}
 use Rattle.wire.specs.Kind.{kindOf}
 use Rattle.wire.specs.Judge.{toldWith, toldOf, toldJudged, judgedBy, judgeCode, judged, firstBadIn, parOf}
-use Rattle.wire.specs.Read.{Answer, answerOf, answerFor, fieldsOf, commandAs, decodeChecks, formIn, opcodeOf, lengthOf, sumOf}
+use Rattle.wire.specs.Read.{Answer, answerOf, answerFor, fieldsOf, commandAs, formChecks, decodeChecks, formIn, opcodeOf, lengthOf, sumOf}
 use Rattle.wire.specs.Read.{thirdWord, commandIn, reachCode, reachChecks, wholeChecks, readCode, readOf, spanOf}
 use Rattle.wire.specs.Steps.{decodedAs, decoded, readWhole, Reached, reachOf, reachAt}
 
@@ -103,14 +103,20 @@ module _ (opcode : ℕ) (flag : Bool) (words one two : ℕ) where
   pub unknown-refused : Found.Unknown ≡ ruleOf opcode → refusedBy (toldWith 5 0) ≡ decoded opcode flag words one two
   unknown-refused e = from-found Found.Unknown e
 
-  pub length-refused : (form : Form) (n : ℕ) → Found.Known form n ≡ ruleOf opcode → (words ≡ n → ⊥)
-      → refusedBy (toldWith 6 0) ≡ decoded opcode flag words one two
-  length-refused form n e h = simp (ne-eqb words n h) at (from-found (Found.Known form n) e)
+  sized : (same : Bool) (form : Form)
+      → cond same (decodedAs form flag one two) (refusedBy (toldWith 6 0))
+      ≡ answerFor (firstOf (6 when not same ∷ formChecks form flag one two)) (commandAs form flag one two)
+  unfolding decodedAs
+  sized true form = refl
+  sized false form = refl
+
+  pub known-decoded : (form : Form) (n : ℕ) → Found.Known form n ≡ ruleOf opcode
+      → cond (eqb words n) (decodedAs form flag one two) (refusedBy (toldWith 6 0)) ≡ decoded opcode flag words one two
+  known-decoded form n e = sized (eqb words n) form ∙ from-found (Found.Known form n) e
 
   pub length-passed : (form : Form) (n : ℕ) → Found.Known form n ≡ ruleOf opcode → words ≡ n
       → decodedAs form flag one two ≡ decoded opcode flag words one two
-  unfolding decodedAs
-  length-passed form n e h = simp (eq-eqb words n h) at (from-found (Found.Known form n) e)
+  length-passed form n e h = simp (eq-eqb words n h) at (known-decoded form n e)
 
 -- Row 4, from what the code holds: the sum, the last word, and the head and the arguments of the command.
 module _ (s : List ℕ) (words sum last : ℕ) (is-sum : sum ≡ sumOf s (words - 1)) (is-last : last ≡ wordAt s ((words - 1) * 4)) where

@@ -42,7 +42,7 @@ unfoldable pub decoded : ℕ → Bool → ℕ → ℕ → ℕ → Answer
 decoded opcode flag words one two =
     answerFor (firstOf (decodeChecks (ruleOf opcode) flag words one two)) (commandAs (formIn (ruleOf opcode)) flag one two)
 
--- `decode_as`: rows 7 to 10, where the form is known.
+-- `decode_form` and `decode_as`: rows 7 to 10, where the form is known and the length is its own (else both answer row 6).
 unfoldable pub decodedAs : Form → Bool → ℕ → ℕ → Answer
 decodedAs form flag one two = answerFor (firstOf (formChecks form flag one two)) (commandAs form flag one two)
 

@@ -1,7 +1,10 @@
 // Reading the command at the front of some bytes: codes 1 to 10, in that order, and how far that command reaches.
 ghost use mathlib.Core.Path.{_≡_};
 ghost use Prim.Native.Nat.{_≤_};
+ghost use mathlib.Core.Bool.{cond};
 ghost use lib.ListN.{length};
+ghost use lib.Dec.{eqb};
+ghost use Rattle.wire.specs.Table.{rowOf};
 ghost use Rattle.wire.specs.Read.{fieldsWith, fieldsOf, sumOf, thirdWord, answerOf, readOf, spanOf};
 ghost use Rattle.wire.specs.Steps.{decodedAs, decoded, readWhole, reachOf, reachAt};
 use super::judging::Judged;
@@ -12,6 +15,7 @@ use super::kinds::kind_of;
 use super::table::Form;
 use super::table::Found;
 use super::table::Layout;
+use super::table::Row;
 use super::table::row_of;
 use super::table::rule_of;
 
@@ -25,6 +29,14 @@ struct Fields {
     pub first: u32,
     pub second: u32,
     pub pad: u32,
+}
+
+// What the words of a command say beside its opcode: the flag, the length, and the two words behind the first.
+struct Encoded {
+    pub flag: bool,
+    pub length: u16,
+    pub one: u32,
+    pub two: u32,
 }
 
 // How far the command at the front reaches: some words, or no further command can be found.
@@ -61,35 +73,65 @@ fn fields_of(layout: Layout, one: u32, two: u32) -> Fields
     }
 }
 
-// Codes 7 to 10, once the form is known. The kind is made beside the row, before the tests, so that one jump by the form serves both.
-fn decode_as(form: Form, flag: bool, one: u32, two: u32) -> Reading
-    ensures { λ r. ⌜ answerOf r ≡ decodedAs form flag one two ⌝ }
+// Codes 6 to 10, once the form and its row are known.
+fn decode_as(form: Form, row: Row, words: u16, encoded: Encoded) -> Reading
+    requires { ⌜ row ≡ rowOf form ⌝ }
+    ensures { λ r. ⌜
+        answerOf r ≡ cond (eqb (encoded .length) words)
+        (decodedAs form (encoded .flag) (encoded .one) (encoded .two))
+        (answerOf (Reading.Refused Refusal.WrongLength)) ⌝ }
 {
-    let row = row_of(form);
+    if encoded.length != words {
+        return Reading::Refused(Refusal::WrongLength);
+    }
     let layout = row.layout;
-    let fields = fields_of(layout, one, two);
-    let kind = kind_of(form, fields.first, fields.second);
+    let fields = fields_of(layout, encoded.one, encoded.two);
     if fields.pad != 0 {
         return Reading::Refused(Refusal::PadNotZero);
     }
-    match judge_by(row, flag, fields.first, fields.second) {
-        Judged::Allowed => Reading::Taken(Command { flag, kind }),
+    match judge_by(row, encoded.flag, fields.first, fields.second) {
+        Judged::Allowed => Reading::Taken(Command {
+            flag: encoded.flag,
+            kind: kind_of(form, fields.first, fields.second),
+        }),
         Judged::Refused(refusal) => Reading::Refused(refusal),
     }
 }
 
-// Codes 5 to 10, from the opcode, the flag, the length and the two words behind the first.
-fn decode(opcode: u16, flag: bool, length: u16, one: u32, two: u32) -> Reading
-    ensures { λ r. ⌜ answerOf r ≡ decoded opcode flag length one two ⌝ }
+// The same, from the form alone. Each arm names its form anew, for there it is a constant, and the compiler settles the form's layout, limits and flag rule
+// for good; handed on as `form`, they would be looked up for every command that is read (speed/README.md has the figures).
+fn decode_form(form: Form, words: u16, encoded: Encoded) -> Reading
+    ensures { λ r. ⌜
+        answerOf r ≡ cond (eqb (encoded .length) words)
+        (decodedAs form (encoded .flag) (encoded .one) (encoded .two))
+        (answerOf (Reading.Refused Refusal.WrongLength)) ⌝ }
+{
+    match form {
+        Form::ImgPwr => decode_as(Form::ImgPwr, row_of(Form::ImgPwr), words, encoded),
+        Form::ImgRegion => decode_as(Form::ImgRegion, row_of(Form::ImgRegion), words, encoded),
+        Form::ImgTrack => decode_as(Form::ImgTrack, row_of(Form::ImgTrack), words, encoded),
+        Form::TrkAlg => decode_as(Form::TrkAlg, row_of(Form::TrkAlg), words, encoded),
+        Form::TrkLoop => decode_as(Form::TrkLoop, row_of(Form::TrkLoop), words, encoded),
+        Form::ImgImage => decode_as(Form::ImgImage, row_of(Form::ImgImage), words, encoded),
+        Form::TrkGoal => decode_as(Form::TrkGoal, row_of(Form::TrkGoal), words, encoded),
+        Form::TlmFlush => decode_as(Form::TlmFlush, row_of(Form::TlmFlush), words, encoded),
+        Form::FlushAuto => decode_as(Form::FlushAuto, row_of(Form::FlushAuto), words, encoded),
+        Form::Open => decode_as(Form::Open, row_of(Form::Open), words, encoded),
+        Form::Close => decode_as(Form::Close, row_of(Form::Close), words, encoded),
+        Form::Run => decode_as(Form::Run, row_of(Form::Run), words, encoded),
+        Form::Wait => decode_as(Form::Wait, row_of(Form::Wait), words, encoded),
+        Form::Stop => decode_as(Form::Stop, row_of(Form::Stop), words, encoded),
+        Form::Clear => decode_as(Form::Clear, row_of(Form::Clear), words, encoded),
+    }
+}
+
+// Codes 5 to 10, from the opcode and what stands beside it.
+fn decode(opcode: u16, encoded: Encoded) -> Reading
+    ensures { λ r. ⌜ answerOf r ≡ decoded opcode (encoded .flag) (encoded .length) (encoded .one) (encoded .two) ⌝ }
 {
     match rule_of(opcode) {
         Found::Unknown => Reading::Refused(Refusal::UnknownOpcode),
-        Found::Known(form, words) => {
-            if length != words {
-                return Reading::Refused(Refusal::WrongLength);
-            }
-            decode_as(form, flag, one, two)
-        }
+        Found::Known(form, words) => decode_form(form, words, encoded),
     }
 }
 
@@ -153,13 +195,13 @@ fn read_whole(s: &[u8], length: u16) -> Reading
         return Reading::Refused(Refusal::SumDiffers);
     }
     let flag = FLAG_BIT <= words::half_at(s, 2);
-    decode(
-        words::half_at(s, 0),
+    let encoded = Encoded {
         flag,
         length,
-        words::word_at(s, 4),
-        third_word(s, length),
-    )
+        one: words::word_at(s, 4),
+        two: third_word(s, length),
+    };
+    decode(words::half_at(s, 0), encoded)
 }
 
 // The command at the front of these bytes.

@@ -1,6 +1,6 @@
 // The table of commands: a row for each of the fifteen forms, and the way from an opcode to its form and length.
 ghost use mathlib.Core.Path.{_≡_};
-ghost use Rattle.wire.specs.Table.{rowWith, rowOf, macroRuleOf, ruleOf};
+ghost use Rattle.wire.specs.Table.{rowWith, rowOf, ruleOf};
 
 // The fifteen commands without their arguments, in the order of the table.
 pub enum Form {
@@ -174,61 +174,26 @@ pub fn row_of(form: Form) -> Row
     }
 }
 
-// What an opcode stands for.
+// What an opcode stands for: a line to each of the fifteen, in the table's order, with its form and its length in words. No other number is an opcode.
 pub fn rule_of(opcode: u16) -> Found
     ensures { λ r. ⌜ r ≡ ruleOf opcode ⌝ }
 {
-    if opcode == 0x0114 {
-        return Found::Known(Form::ImgPwr, 3);
+    match opcode {
+        0x0114 => Found::Known(Form::ImgPwr, 3),
+        0x0117 => Found::Known(Form::ImgRegion, 3),
+        0x0118 => Found::Known(Form::ImgTrack, 3),
+        0x0148 => Found::Known(Form::TrkAlg, 3),
+        0x014b => Found::Known(Form::TrkLoop, 3),
+        0x0150 => Found::Known(Form::ImgImage, 3),
+        0x0153 => Found::Known(Form::TrkGoal, 4),
+        0x015a => Found::Known(Form::TlmFlush, 2),
+        0x015c => Found::Known(Form::FlushAuto, 3),
+        0x7f01 => Found::Known(Form::Open, 3),
+        0x7f02 => Found::Known(Form::Close, 2),
+        0x7f03 => Found::Known(Form::Run, 3),
+        0x7f04 => Found::Known(Form::Wait, 3),
+        0x7f05 => Found::Known(Form::Stop, 2),
+        0x7f06 => Found::Known(Form::Clear, 2),
+        _ => Found::Unknown,
     }
-    if opcode == 0x0117 {
-        return Found::Known(Form::ImgRegion, 3);
-    }
-    if opcode == 0x0118 {
-        return Found::Known(Form::ImgTrack, 3);
-    }
-    if opcode == 0x0148 {
-        return Found::Known(Form::TrkAlg, 3);
-    }
-    if opcode == 0x014b {
-        return Found::Known(Form::TrkLoop, 3);
-    }
-    if opcode == 0x0150 {
-        return Found::Known(Form::ImgImage, 3);
-    }
-    if opcode == 0x0153 {
-        return Found::Known(Form::TrkGoal, 4);
-    }
-    if opcode == 0x015a {
-        return Found::Known(Form::TlmFlush, 2);
-    }
-    if opcode == 0x015c {
-        return Found::Known(Form::FlushAuto, 3);
-    }
-    macro_rule_of(opcode)
-}
-
-// The opcodes 0x7fxx.
-fn macro_rule_of(opcode: u16) -> Found
-    ensures { λ r. ⌜ r ≡ macroRuleOf opcode ⌝ }
-{
-    if opcode == 0x7f01 {
-        return Found::Known(Form::Open, 3);
-    }
-    if opcode == 0x7f02 {
-        return Found::Known(Form::Close, 2);
-    }
-    if opcode == 0x7f03 {
-        return Found::Known(Form::Run, 3);
-    }
-    if opcode == 0x7f04 {
-        return Found::Known(Form::Wait, 3);
-    }
-    if opcode == 0x7f05 {
-        return Found::Known(Form::Stop, 2);
-    }
-    if opcode == 0x7f06 {
-        return Found::Known(Form::Clear, 2);
-    }
-    Found::Unknown
 }

@@ -26,14 +26,14 @@ returns c =
 half-at-requires : tie.Need-half-at-requires
 half-at-requires c κs = search needs
 
-half-at-requires-2 : tie.Need-half-at-requires-2
-half-at-requires-2 c κs = search needs
-
 word-at-requires-2 : tie.Need-word-at-requires-2
 word-at-requires-2 c κs = search needs
 
 third-word-requires : tie.Need-third-word-requires
 third-word-requires c κs = search needs
+
+half-at-requires-2 : tie.Need-half-at-requires-2
+half-at-requires-2 c κs = search needs
 
 decode-requires : tie.Need-decode-requires
 decode-requires c κs = search needs
@@ -44,10 +44,10 @@ returns-2 c =
     let a = checked .before .before .before .before .args in
     let sum = checked .before .before .sum-of in
     let last = checked .before .word-at in
-    let opcode = c .before .before .before .half-at2 in
     let half = c .before .before .before .before .half-at in
-    let one = c .before .before .word-at2 in
-    let two = c .before .third-word in
+    let one = c .before .before .before .word-at2 in
+    let two = c .before .before .third-word in
+    let opcode = c .before .half-at2 in
     sum-passed (a .s .now) (a .length) (sum .result) (last .result) (sum .ensures) (last .ensures)
     (opcode .result) (half .result) (one .result) (two .result) (opcode .ensures) (half .ensures) (one .ensures) (two .ensures) (checked .if1 .left)
     (c .decode .ensures)
@@ -62,8 +62,8 @@ read-whole-spec =
     word-at-requires
     returns
     half-at-requires
-    half-at-requires-2
     word-at-requires-2
     third-word-requires
+    half-at-requires-2
     decode-requires
     returns-2)
