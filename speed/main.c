@@ -89,7 +89,7 @@ static void macro_command(struct list *l, unsigned i)
     else append_plain(l, i, true);
 }
 
-/* Eight full macros, each the last entry of the one above, 600 seconds in all; the highest is started. */
+/* Eight macros of 24, which take all entries there are, each the last entry of the one above, 600 seconds in all; the highest is started. */
 static void deep_list(struct list *l)
 {
     l->size = 0;
@@ -338,7 +338,7 @@ static void measure(struct job *j)
 /* A run of n commands, the first half of them in the kit's list. */
 static struct job run_job(const char *name, void (*put)(struct list *, unsigned), unsigned n)
 {
-    struct job j = { .name = name, .which = RUNS, .units = n, .aim = 3.0 };
+    struct job j = { .name = name, .which = RUNS, .units = n, .aim = 2.0 };
     for (unsigned i = 0; i < n; i++) put(i < n / 2 ? &j.kit : &j.pupil, i);
     return j;
 }
@@ -417,7 +417,7 @@ static void print_growth(struct job *jobs, int n, const char *of, const char *he
     }
 }
 
-enum { ALL = 11, SIZES = 3 };
+enum { ALL = 13, SIZES = 3 };
 
 static void make_jobs(struct job *jobs)
 {
@@ -425,16 +425,19 @@ static void make_jobs(struct job *jobs)
     jobs[1] = (struct job){ .name = "writing a command", .which = WRITE, .units = 1, .aim = 1.2 };
     jobs[2] = (struct job){ .name = "reading a frame", .which = FRAME_READ, .units = 1, .aim = 1.2 };
     jobs[3] = (struct job){ .name = "writing a frame", .which = FRAME_WRITE, .units = 1, .aim = 1.2 };
-    jobs[4] = run_job("a run of 512 plain commands", plain_command, 512);
-    jobs[5] = run_job("a run of 512 macro commands", macro_command, 512);
-    jobs[6] = (struct job){ .name = "600 seconds of an eight-deep macro", .which = SECONDS, .units = 600, .aim = 3.0 };
-    deep_list(&jobs[6].kit);
-    typed_jobs(&jobs[7], &jobs[8], &mixed, 512);
-    typed_jobs(&jobs[9], &jobs[10], &bare, 512);
-    jobs[7].name = "assembling 512 mixed commands";
-    jobs[8].name = "listing 512 mixed commands";
-    jobs[9].name = "assembling 512 bare commands";
-    jobs[10].name = "listing 512 bare commands";
+    jobs[4] = run_job("a run of 8 plain commands", plain_command, 8);
+    jobs[5] = run_job("a run of 8 macro commands", macro_command, 8);
+    jobs[6] = run_job("a run of 512 plain commands", plain_command, 512);
+    jobs[7] = run_job("a run of 512 macro commands", macro_command, 512);
+    jobs[4].aim = jobs[5].aim = 2.5; /* most of a short run is the judging of the state it starts from */
+    jobs[8] = (struct job){ .name = "600 seconds of an eight-deep macro", .which = SECONDS, .units = 600, .aim = 1.5 };
+    deep_list(&jobs[8].kit);
+    typed_jobs(&jobs[9], &jobs[10], &mixed, 512);
+    typed_jobs(&jobs[11], &jobs[12], &bare, 512);
+    jobs[9].name = "assembling 512 mixed commands";
+    jobs[10].name = "listing 512 mixed commands";
+    jobs[11].name = "assembling 512 bare commands";
+    jobs[12].name = "listing 512 bare commands";
 }
 
 int main(int argc, char **argv)

@@ -1,10 +1,11 @@
 /* The bench of 01-scope.md in plain C, written from that page: the state is one struct that is passed by pointer and changed in place.
-   It does the same jobs as crates/timing and folds their results in the same way. Typed lists are assembled and listed by the rules of request Q-1. */
+   It does the same jobs as crates/timing and folds their results in the same way. Typed lists are assembled and listed by the rules of request Q-1;
+   the macros share one pool of entries by those of request Q-9. */
 #include "plain.h"
 #include <stdbool.h>
 #include <string.h>
 
-enum { MACROS = 8, ENTRIES = 24, NONE = 255, LONGEST = 600, FOR_EVER = 65535, LIST = 4096, ROOM = 8192 };
+enum { MACROS = 8, POOL = 192, NONE = 255, LONGEST = 600, FOR_EVER = 65535, LIST = 4096, ROOM = 8192 };
 enum { TEXT = 32768, DIGITS = 5, LISTED = 8192 /* above the 7,846 bytes that a list's text has at most */ };
 
 enum kind {
@@ -34,8 +35,9 @@ struct bench {
     uint8_t algorithm, flushes;
     uint8_t running, opened;
     uint16_t left;
-    struct command entries[MACROS][ENTRIES];
-    uint8_t counts[MACROS];
+    struct command pool[POOL]; /* the entries of macro 0, behind them those of macro 1, and so on */
+    uint8_t used;              /* how many entries that is in all */
+    uint8_t counts[MACROS];    /* 0 for a macro that is neither open nor closed */
     bool closed[MACROS];
 };
 
@@ -342,6 +344,14 @@ static void status(const struct bench *b, struct frame *f)
     for (int m = 0; m < MACROS; m++) f->closed |= (uint8_t)(b->closed[m] << m);
 }
 
+/* How many entries the macros below n have together, which is where those of macro n start. */
+static unsigned entries_below(const struct bench *b, unsigned n)
+{
+    unsigned sum = 0;
+    for (unsigned m = 0; m < n; m++) sum += b->counts[m];
+    return sum;
+}
+
 /* The seconds of an entry, by the lengths of the smaller macros. */
 static unsigned span(const struct bench *b, const struct command *c, unsigned m, const unsigned *lengths)
 {
@@ -353,10 +363,10 @@ static unsigned span(const struct bench *b, const struct command *c, unsigned m,
 /* The lengths of the macros below n; 601 stands for anything longer than 600. */
 static void measure(const struct bench *b, unsigned n, unsigned *lengths)
 {
+    const struct command *c = b->pool;
     for (unsigned m = 0; m < n; m++) {
         unsigned sum = 0;
-        unsigned count = b->counts[m] < ENTRIES ? b->counts[m] : ENTRIES;
-        for (unsigned i = 0; i < count; i++) sum += span(b, &b->entries[m][i], m, lengths);
+        for (const struct command *end = c + b->counts[m]; c < end; c++) sum += span(b, c, m, lengths);
         lengths[m] = sum > LONGEST ? LONGEST + 1 : sum;
     }
 }
@@ -364,8 +374,8 @@ static void measure(const struct bench *b, unsigned n, unsigned *lengths)
 /* The entry that second k of macro m hands over, or NULL. */
 static const struct command *entry_at(const struct bench *b, unsigned m, unsigned k, const unsigned *lengths)
 {
-    for (unsigned i = 0; i < b->counts[m]; i++) {
-        const struct command *c = &b->entries[m][i];
+    const struct command *c = b->pool + entries_below(b, m);
+    for (const struct command *end = c + b->counts[m]; c < end; c++) {
         unsigned seconds = span(b, c, m, lengths);
         if (k < seconds) {
             if (c->kind == WAIT) return NULL;
@@ -382,20 +392,19 @@ static bool paced(const struct series *s)
     return s->time == 0 || (s->next >= 1 && s->next <= s->interval);
 }
 
-/* 27: may this state be? */
-static bool sound(const struct bench *b)
+/* 27: may this state be? The lengths of all macros are worked out on the way. */
+static bool sound(const struct bench *b, unsigned *lengths)
 {
     struct frame f;
     status(b, &f);
     if (!frame_obeys(&f) || !paced(&b->image) || !paced(&b->track)) return false;
-    unsigned lengths[MACROS];
+    if (b->used > POOL || b->used != entries_below(b, MACROS)) return false;
     measure(b, MACROS, lengths);
+    const struct command *c = b->pool;
     for (unsigned m = 0; m < MACROS; m++) {
-        if (!b->closed[m] && b->opened != m) continue;
-        if (b->counts[m] > ENTRIES) return false;
         if (b->closed[m] && (b->counts[m] < 1 || lengths[m] < 1 || lengths[m] > LONGEST)) return false;
-        for (unsigned i = 0; i < b->counts[m]; i++) {
-            const struct command *c = &b->entries[m][i];
+        if (!b->closed[m] && b->opened != m && b->counts[m] != 0) return false;
+        for (const struct command *end = c + b->counts[m]; c < end; c++) {
             if (!c->flag || judge(c).code != 0) return false;
             if (c->kind == RUN && (c->mode >= m || !b->closed[c->mode])) return false;
         }
@@ -424,7 +433,7 @@ static void execute(struct bench *b, const struct command *c)
     case TRK_GOAL: b->xgoal = c->x; b->ygoal = c->y; break;
     case TLM_FLUSH: b->flushes++; break;
     case FLUSH_AUTO: b->automatic = c->mode == 1; break;
-    case OPEN: b->opened = c->mode; b->counts[c->mode] = 0; break;
+    case OPEN: b->opened = c->mode; break;
     case CLOSE: b->closed[b->opened] = true; b->opened = NONE; break;
     case RUN:
         measure(b, c->mode + 1u, lengths);
@@ -433,6 +442,7 @@ static void execute(struct bench *b, const struct command *c)
         break;
     case STOP: b->running = NONE; b->left = 0; break;
     case CLEAR:
+        b->used = 0;
         memset(b->counts, 0, sizeof b->counts);
         memset(b->closed, 0, sizeof b->closed);
         b->opened = NONE;
@@ -452,11 +462,21 @@ static uint8_t denied(const struct bench *b, const struct command *c)
         measure(b, b->opened + 1u, lengths);
         if (lengths[b->opened] > LONGEST) return 15;
     }
-    if (c->flag && b->counts[b->opened] >= ENTRIES) return 16;
+    if (c->flag && b->used >= POOL) return 16;
     if (c->flag && c->kind == RUN && c->mode >= b->opened) return 17;
     if (c->kind == RUN && !b->closed[c->mode]) return 18;
     if (((c->kind == RUN && !c->flag) || c->kind == CLEAR) && b->running != NONE) return 19;
     return 0;
+}
+
+/* The open macro's next entry; those of the macros behind it make room. */
+static void append(struct bench *b, const struct command *c)
+{
+    unsigned at = entries_below(b, b->opened + 1u);
+    memmove(b->pool + at + 1, b->pool + at, (b->used - at) * sizeof b->pool[0]);
+    b->pool[at] = *c;
+    b->counts[b->opened]++;
+    b->used++;
 }
 
 /* The command at the front of these bytes, on a sound bench. */
@@ -467,7 +487,7 @@ static struct told take(struct bench *b, const uint8_t *s, size_t size, size_t *
     if (t.code != 0) return t;
     uint8_t code = denied(b, &c);
     if (code != 0) return told(code, 0);
-    if (c.flag) b->entries[b->opened][b->counts[b->opened]++] = c;
+    if (c.flag) append(b, &c);
     else execute(b, &c);
     return told(0, 0);
 }
@@ -495,7 +515,8 @@ static uint8_t run(struct bench *b, const uint8_t *kit, size_t kits, const uint8
     records[0] = records[1] = 0;
     if (kits > LIST || pupils > LIST) return 20;
     if (fits < ROOM) return 21;
-    if (!sound(b)) return 27;
+    unsigned lengths[MACROS];
+    if (!sound(b, lengths)) return 27;
     records[0] = run_list(b, kit, kits, 1, room);
     records[1] = run_list(b, pupil, pupils, 2, room + 8 * records[0]);
     return 0;
@@ -516,12 +537,11 @@ static void series_second(struct series *s)
 static uint8_t second(struct bench *b, const struct command **handed)
 {
     *handed = NULL;
-    if (!sound(b)) return 27;
+    unsigned lengths[MACROS];
+    if (!sound(b, lengths)) return 27;
     series_second(&b->image);
     series_second(&b->track);
     if (b->running == NONE) return 0;
-    unsigned lengths[MACROS];
-    measure(b, b->running + 1u, lengths);
     const struct command *c = entry_at(b, b->running, lengths[b->running] - b->left, lengths);
     b->left--;
     if (b->left == 0) b->running = NONE;
@@ -817,7 +837,8 @@ static uint64_t with_frame(uint64_t sum, const struct frame *f)
 static uint64_t with_status(uint64_t sum, const struct bench *b)
 {
     struct frame f;
-    if (!sound(b)) return mixed(sum, 27);
+    unsigned lengths[MACROS];
+    if (!sound(b, lengths)) return mixed(sum, 27);
     status(b, &f);
     return with_frame(sum, &f);
 }

@@ -11,23 +11,16 @@ use Rattle.wire.specs.Codes.{Check, firstOf}
 use Rattle.wire.specs.Judge.{argChecks, toldWith, firstBadIn, parOf}
 use Rattle.wire.specs.Read.{answerFor, readChecks, said}
 use Rattle.wire.proofs.FirstOf.{Coded, first-append}
-use Rattle.camera.specs.declared.Camera.{Camera}
 use Rattle.store.specs.declared.Store.{Store}
 use Rattle.store.specs.declared.tally.Tally.{Tally}
 use Rattle.store.specs.Checks.{permitCode, storeChecks}
-use Rattle.store.specs.TallySteps.{storeOf, tallyChecks, tallyCode, tallyAfter, entriesAfter, Tallied}
+use Rattle.store.specs.TallySteps.{tallyChecks, tallyCode, Tallied}
 use Rattle.store.proofs.Tallies.{tallied-code, tallied-effect, tallied-after}
 use Rattle.bench.specs.declared.Bench.{Bench}
 use Rattle.bench.specs.Carry.{cameraAfter, commandChecks, outcomeFor, carryOut, bytesChecks, taken, carryOutBytes}
-use Rattle.bench.specs.Steps.{decidedBy, decidedIn, effectBy, tallyBy, carriedBy}
+use Rattle.bench.specs.Steps.{decidedBy, decidedIn, tallyBy, carriedBy}
 use Rattle.bench.proofs.Outcomes.{judge-coded, read-coded, judge-then, carry-code, sound-bytes}
 use Rattle.bench.proofs.Sound.{GoodBench, Accepted, good-store, judge-accepted, read-accepted}
-
--- A bench is the one after a command if its camera, and the entries and the tally of its store, are those after it.
-pub effect-parts : (b : Bench) (t : Tally) (c : Command) {camera : Camera} {entries : List Command} {tally : Tally} {store : Store}
-    → camera ≡ cameraAfter (b .camera) c → entries ≡ entriesAfter (b .store .entries) t c → tally ≡ tallyAfter t c → store ≡ storeOf entries tally
-    → record { camera = camera; store = store } ≡ effectBy b t c
-effect-parts b t c camera-is entries-is tally-is store-is = rw (store-is, camera-is, entries-is, tally-is)
 
 module _ (b : Bench) (t : Tally) (good : GoodBench b) (is : Tallied (b .store) t) where
   -- The rows of the tally behind others tell the code that the store's rows tell there.

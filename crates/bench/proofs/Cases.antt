@@ -1,17 +1,17 @@
 -- 01, "Examples on each side of a line": all of the starred cases, of single commands, of series and of macros, as one list under one claim; and a
 -- typed list.
-use Prim.Native.Nat.{ℕ, zero, suc}
+use Prim.Native.Nat.{ℕ, zero, suc, _-_}
 use Prim.Native.String.{String}
 use mathlib.Core.Path.{_≡_, refl}
 use mathlib.Core.List.{List, [], _∷_, _++_}
 use mathlib.Core.Bool.{Bool, true, false}
-use lib.ListN.{length, set, replicate}
+use lib.ListN.{length, replicate}
 use lib.IntN.{pos, negsuc}
 use lib.Ieee.{Float, nan, fin, ofBits, toBits}
 use Rattle.words.specs.BigEndian.{bytesOf}
 use Rattle.words.specs.Text.{ascii}
+use Rattle.wire.specs.declared.table.Form.{Form}
 use Rattle.wire.specs.declared.kinds.Kind.{Kind}
-use Rattle.wire.specs.declared.kinds.Command.{Command}
 use Rattle.wire.specs.Judge.{toldWith, judgeCode}
 use Rattle.wire.specs.Read.{sumOf, readOf, spanOf}
 use Rattle.wire.specs.Write.{commandBytes, listBytes}
@@ -26,9 +26,11 @@ use Rattle.text.specs.Number.{digitsIn, wholeOf}
 use Rattle.text.specs.Names.{formNamed}
 use Rattle.text.specs.Line.{typedAs, lineOf}
 use Rattle.text.specs.Assemble.{commandsIn, numbersIn}
-use Rattle.store.specs.Slots.{slotAt, entriesOf, kept}
+use Rattle.store.specs.Words.{headOf, inserted}
+use Rattle.store.specs.Words.{commandsIn as entriesIn}
+use Rattle.store.specs.Pool.{sizeOf, startOf, between, entriesOf, kept}
 use Rattle.store.specs.WrittenOut.{expand, flatBelow, flat, seconds, writtenOut}
-use Rattle.store.specs.Effects.{storeWith, freshSlots, freshStore, appliedOf}
+use Rattle.store.specs.Effects.{storeWith, freshStore, appliedOf}
 use Rattle.store.specs.Sound.{allBelow, allOf, storeSound}
 use Rattle.bench.specs.declared.Bench.{Bench}
 use Rattle.bench.specs.Status.{freshBench, benchSound}
@@ -105,12 +107,14 @@ limit = fin false 1 (pos 10)
 abbrev below : Float
 below = fin false 0xffffff (negsuc 13)
 
--- A bench that is fresh but for its camera, and one that is fresh but for the entries, their number in each macro, and the open macro.
+-- A bench that is fresh but for its camera, and one that is fresh but for the words at the front of its pool, the number of entries in each macro,
+-- and the open macro.
 abbrev showing : Camera → Bench
 showing camera = record { camera = camera; store = freshStore }
 
-abbrev holding : List Command → List ℕ → ℕ → Bench
-holding entries sizes opened = record { camera = freshCamera; store = storeWith entries sizes (replicate 8 false) opened 255 0 }
+abbrev holding : List ℕ → List ℕ → ℕ → Bench
+holding words sizes opened =
+    record { camera = freshCamera; store = storeWith (words ++ replicate (576 - length words) 0) sizes (replicate 8 false) opened 255 0 }
 
 -- OPEN 3.
 abbrev open3 : List ℕ
@@ -164,10 +168,10 @@ cases =
     ∷ decoded (Kind.TrkGoal nought nan) 8 2 freshBench
     -- 7f010003 03000000 7c010003: OPEN 3. 7f048003 00020000 7f068003: appended WAIT 2.
     -- (OPEN 3 opens macro 3. WAIT 2 is refused where none is open, and behind OPEN 3 it is stored as macro 3's first entry. Nothing else changes.)
-    ∷ command [] open3 false (Kind.Open 3) 0 (holding freshSlots (replicate 8 0) 3)
+    ∷ command [] open3 false (Kind.Open 3) 0 (holding [] (replicate 8 0) 3)
     ∷ command [] (0x7f048003 ∷ 0x00020000 ∷ 0x7f068003 ∷ []) true (Kind.Wait 2) 11 freshBench
     ∷ command (open3 ∷ []) (0x7f048003 ∷ 0x00020000 ∷ 0x7f068003 ∷ []) true (Kind.Wait 2) 0
-    (holding (set freshSlots (slotAt 3 0) (record { flag = true; kind = Kind.Wait 2 })) (0 ∷ 0 ∷ 0 ∷ 1 ∷ 0 ∷ 0 ∷ 0 ∷ 0 ∷ []) 3)
+    (holding (headOf Form.Wait true ∷ 2 ∷ 0 ∷ []) (0 ∷ 0 ∷ 0 ∷ 1 ∷ 0 ∷ 0 ∷ 0 ∷ 0 ∷ []) 3)
     -- Macro 0 is FLUSH, WAIT 2: length 3.
     ∷ lasts macros 0 3
     -- Macro 1 is RUN 0, power off, RUN 0: length 7, with FLUSH in seconds 1 and 5 and power off in 4.
@@ -184,9 +188,9 @@ abbrev _also_ : {A B : Type 0} → A → B → A × B
 a also b = (a, b)
 
 pub cases-hold : Holds cases
-unfolding bytesOf readOf sumOf commandBytes judgeCode ofBits toBits frameRule secondOf entriesOf kept expand flatBelow flat seconds writtenOut
-    appliedOf allBelow allOf storeSound benchSound carryOut carryOutBytes secondAt linesOf wordsOf sameText digitsIn wholeOf formNamed typedAs lineOf
-    commandsIn numbersIn listBytes spanOf rests taken runRests
+unfolding bytesOf readOf sumOf commandBytes judgeCode ofBits toBits frameRule secondOf inserted entriesIn sizeOf startOf between entriesOf kept
+    expand flatBelow flat seconds writtenOut appliedOf allBelow allOf storeSound benchSound carryOut carryOutBytes secondAt linesOf wordsOf sameText
+    digitsIn wholeOf formNamed typedAs lineOf commandsIn numbersIn listBytes spanOf rests taken runRests
 cases-hold =
     (refl, refl, refl)
     also (refl, refl, refl)

@@ -1,8 +1,8 @@
 -- The three demands, word for word, and under every clause of them the theorems that carry it. The theorems speak of the meanings that the promises
--- in src/ name: what `carry_out` answers is `carryOut`, `carry_out_bytes` `carryOutBytes`, `second` `secondAt`, `status` `statusAt`, `run` `runOf`
--- with the room `roomAfter`, and `run_typed` `typedOf` with the room `typedRoom` (specs/Carry, Second, Status, Run, Typed). What can happen to a bench
--- is a list of events: commands, seconds, runs and runs of typed lists (specs/Events). Read the statements here; what they rest on is proved in Rows,
--- Back, Sound, MacroRun, Report, TypedReport and LineShown, and in the crates below.
+-- in src/ name: what `carry_out` answers is `carryOut`, `carry_out_bytes` `carryOutBytes`, `second` `secondAt`, `status` `statusAt`, `free` `freeAt`,
+-- `run` `runOf` with the room `roomAfter`, and `run_typed` `typedOf` with the room `typedRoom` (specs/Carry, Second, Status, Run, Typed). What can
+-- happen to a bench is a list of events: commands, seconds, runs and runs of typed lists (specs/Events). Read the statements here; what they rest on is
+-- proved in Rows, Back, Sound, FreeEntries, MacroRun, Report, TypedReport and LineShown, and in the crates below.
 use Prim.Native.Nat.{ℕ, _+_, _*_, _-_, _≤_, _<_}
 use mathlib.Core.Path.{_≡_, refl, sym, _∙_}
 use mathlib.Core.Logic.{_↔_, _≢_}
@@ -50,11 +50,11 @@ use Rattle.text.proofs.Calls as texts
 use Rattle.text.proofs.Calls.{textIn, listIn}
 use Rattle.store.specs.declared.roles.Role.{Role}
 use Rattle.store.specs.Roles.{isRun, isStop}
-use Rattle.store.specs.Slots.{isClosed}
+use Rattle.store.specs.Pool.{isClosed, freeIn}
 use Rattle.store.specs.WrittenOut.{writtenOut}
 use Rattle.store.proofs.Running.{RunOf, closed-lasts}
 use Rattle.bench.specs.declared.Bench.{Bench}
-use Rattle.bench.specs.Status.{freshBench, statusOf, benchSound, soundCheck, statusAt}
+use Rattle.bench.specs.Status.{freshBench, statusOf, benchSound, soundCheck, statusAt, freeAt}
 use Rattle.bench.specs.Carry.{Outcome, effectOf, commandChecks, carryCode, carryOut, bytesChecks, taken, carryBytesCode, carryOutBytes}
 use Rattle.bench.specs.Second.{secondAt}
 use Rattle.bench.specs.Run.{kitPart, runChecks, runOf, roomAfter}
@@ -65,6 +65,7 @@ use Rattle.bench.proofs.Back.{command-again, frame-again}
 use Rattle.bench.proofs.InTurn.{leftBy, run-left, typed-left}
 use Rattle.bench.proofs.Sound.{GoodBench, good-store, left-good, fresh-sound, event-keeps, after-keeps, reached-sound}
 use Rattle.bench.proofs.Sound.{second-answers, status-answers, status-rules, status-written}
+use Rattle.bench.proofs.FreeEntries.{free-answers}
 use Rattle.bench.proofs.MacroRun.{runCommand, run-begins, run-accepted, run-accepted-bytes, begun-sound, run-begins-within}
 use Rattle.bench.proofs.MacroRun.{stays-idle, idle-hands, now-runs, now-hands, next-says, next-idle}
 use Rattle.bench.proofs.Outcomes.{sound-bytes}
@@ -96,6 +97,7 @@ pub record Judges : Type 0 where
   pub put-record : (record-bytes room : List ℕ) → Order (24 when not (hasRoom record-bytes room) ∷ []) (putCode record-bytes room)
   pub second : (b : Bench) → Order (soundCheck b ∷ []) (secondAt b .told .code)
   pub status : (b : Bench) → Order (soundCheck b ∷ []) (statusAt b .code)
+  pub free : (b : Bench) → Order (soundCheck b ∷ []) (freeAt b .code)
   pub run : (b : Bench) (kit pupil room : List ℕ) → Order (runChecks b kit pupil room) (runOf b kit pupil room .code)
   pub run-typed : (b : Bench) (kit text room : List ℕ) → FindsFirst (typedFindings b kit text room) (typedOf b kit text room .found)
   pub line : (flag : Bool) (words : List (List ℕ)) → InOrder (lineChecks (formNamed (nameIn words)) flag words) (typedAs flag words .told .code)
@@ -116,6 +118,7 @@ demand-1-judges =
       put-record = rows.put-order;
       second = rows.second-order;
       status = rows.status-order;
+      free = rows.free-order;
       run = rows.run-order;
       run-typed = rows.typed-order;
       line = line-order;
@@ -494,6 +497,7 @@ pub record Answers (b : Bench) : Type 0 where
   pub run : (kit pupil room : List ℕ) → runOf b kit pupil room .code ≢ 27
   pub run-typed : (kit text room : List ℕ) → typedOf b kit text room .found .told .code ≢ 27
   pub status : statusAt b ≡ record { code = 0; shown = statusOf b ∷ [] }
+  pub free : freeAt b ≡ record { code = 0; free = freeIn (b .store) }
   pub status-written : (room : List ℕ) → 32 ≤ length room
       → (frames.writeCode (statusOf b) room ≡ 0) × (frames.roomAfter (statusOf b) room ≡ frameBytes (statusOf b) ++ drop 32 room)
   pub status-read : frames.readOf (frameBytes (statusOf b)) ≡ takenAs (statusOf b)
@@ -507,6 +511,7 @@ sound-answers b good =
       run = rows.run-not-27 b (good .sound);
       run-typed = rows.typed-not-27 b (good .sound);
       status = status-answers b good;
+      free = free-answers b good;
       status-written = status-written b good;
       status-read = read-written (statusOf b) (status-rules b good);
     }

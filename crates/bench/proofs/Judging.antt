@@ -1,4 +1,5 @@
 -- From the single tests of a bench to its soundness, and from the steps of a second to the whole.
+use Prim.Native.Nat.{ℕ}
 use mathlib.Core.Path.{_≡_, refl, sym, ap, _∙_}
 use mathlib.Core.List.{[], _∷_}
 use mathlib.Core.Bool.{Bool, true, false}
@@ -12,15 +13,20 @@ use Rattle.store.specs.declared.Store.{Store}
 use Rattle.store.specs.declared.Step.{Step}
 use Rattle.store.specs.declared.lookup.Handed.{Handed}
 use Rattle.store.specs.declared.tally.Survey.{Survey}
-use Rattle.store.specs.Slots.{idle}
+use Rattle.store.specs.Pool.{idle}
 use Rattle.store.specs.Effects.{storeWith, handedOf, nextEntry, afterSecond}
 use Rattle.store.specs.Sound.{storeSound}
-use Rattle.store.specs.TallySteps.{surveyOf}
+use Rattle.store.specs.TallySteps.{freeBy, surveyOf}
 use Rattle.store.specs.SecondSteps.{Stepped, stepOf, steppedOf}
 use Rattle.bench.specs.declared.Bench.{Bench}
-use Rattle.bench.specs.Status.{statusOf, rulesHold, benchSound, statusAt}
+use Rattle.bench.specs.declared.Works.{Works}
+use Rattle.bench.specs.Status.{statusOf, rulesHold, benchSound, statusAt, freeAt}
 use Rattle.bench.specs.Second.{executedAll, secondAt}
-use Rattle.bench.specs.Steps.{surveyed, stayedAt}
+use Rattle.bench.specs.Steps.{worksOf, benchOf, surveyed, stayedAt}
+
+-- What is at work of a bench is, on the bench's own pool, that bench; so what is told of it is told of the bench.
+pub own-bench : (b : Bench) (works : Works) → works ≡ worksOf b → benchOf works (b .store .pool) ≡ b
+own-bench b works is = ap (λ (w : Works). benchOf w (b .store .pool)) is
 
 module _ (b : Bench) where
   -- The rules outside the store do not hold where one of their tests fails; where those before it pass, the last decides.
@@ -59,6 +65,16 @@ pub unknown : (b : Bench) → benchSound b ≡ false → record { code = 27; sho
 unfolding statusAt
 unknown b unsound = rw unsound
 
+-- So are the free entries, by the tally that its survey finds.
+module _ (b : Bench) (survey : Survey) (is : survey ≡ surveyed b) where
+  pub free-known : {n : ℕ} → survey .sound ≡ true → n ≡ freeBy (survey .tally) → record { code = 0; free = n } ≡ freeAt b
+  unfolding freeAt
+  free-known sound e = rw (e, is, sym (ap (λ (s : Survey). s .sound) is) ∙ sound)
+
+  pub free-unknown : survey .sound ≡ false → record { code = 27; free = 0 } ≡ freeAt b
+  unfolding freeAt
+  free-unknown unsound = rw (sym (ap (λ (s : Survey). s .sound) is) ∙ unsound)
+
 -- A second of a bench that is not sound.
 pub no-second : (b : Bench) → benchSound b ≡ false → stayedAt b ≡ secondAt b
 unfolding secondAt
@@ -80,11 +96,11 @@ step-sound s step e = ap (λ (r : Stepped). r .sound) e ∙ go (storeSound s) re
 
 -- It changes two numbers, so the store afterwards is the old one with those.
 counted-on : (s : Store)
-    → storeWith (s .entries) (s .counts) (s .closed) (s .opened) (afterSecond s .running) (afterSecond s .left) ≡ afterSecond s
+    → storeWith (s .pool) (s .counts) (s .closed) (s .opened) (afterSecond s .running) (afterSecond s .left) ≡ afterSecond s
 counted-on s = go (idle s) refl
   where
     go : (none : Bool) → idle s ≡ none
-        → storeWith (s .entries) (s .counts) (s .closed) (s .opened) (afterSecond s .running) (afterSecond s .left) ≡ afterSecond s
+        → storeWith (s .pool) (s .counts) (s .closed) (s .opened) (afterSecond s .running) (afterSecond s .left) ≡ afterSecond s
     go true is = rw is
     go false is = rw is
 
@@ -98,7 +114,7 @@ module _ (b : Bench) (step : Step) (rules : rulesHold b ≡ true) (stepped : ste
         told = toldWith 0 0;
         bench = record {
           camera = done;
-          store = storeWith (b .store .entries) (b .store .counts) (b .store .closed) (b .store .opened) (step .running) (step .left);
+          store = storeWith (b .store .pool) (b .store .counts) (b .store .closed) (b .store .opened) (step .running) (step .left);
         };
         handed = handedOf (step .handed);
       } ≡ secondAt b

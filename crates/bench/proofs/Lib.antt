@@ -1,7 +1,9 @@
 -- Laws of the bench, in two groups: what a reader wants to know (`Demands` is the file to open first; `Cases` has 01's starred examples,
--- `Report`, `TypedReport` and `LineShown` what a moderator asks of the records), and the laws behind those and behind single functions.
+-- `FreeEntries` what is said of the free macro entries, `Report`, `TypedReport` and `LineShown` what a moderator asks of the records), and the laws
+-- behind those and behind single functions.
 pub mod Demands
 pub mod Cases
+pub mod FreeEntries
 pub mod Report
 pub mod TypedReport
 pub mod LineShown

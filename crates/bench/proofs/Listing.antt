@@ -14,18 +14,17 @@ use Rattle.wire.specs.declared.kinds.Command.{Command}
 use Rattle.wire.specs.declared.judging.Told.{Told}
 use Rattle.wire.specs.Read.{Answer}
 use Rattle.report.specs.Record.{recordBytes}
-use Rattle.camera.specs.declared.Camera.{Camera}
-use Rattle.store.specs.declared.Store.{Store}
 use Rattle.store.specs.declared.tally.Tally.{Tally}
-use Rattle.store.specs.TallySteps.{storeOf, tallyAfter, entriesAfter, Tallied}
+use Rattle.store.specs.TallySteps.{storeOf, poolAfter, Tallied}
 use Rattle.bench.specs.declared.Bench.{Bench}
+use Rattle.bench.specs.declared.Works.{Works}
 use Rattle.bench.specs.declared.Verdict.{Verdict}
 use Rattle.bench.specs.declared.deciding.Decision.{Decision}
-use Rattle.bench.specs.Carry.{Outcome, cameraAfter, taken}
-use Rattle.bench.specs.Steps.{decisionOf, decidedIn, benchBy, tallyBy, carriedBy}
+use Rattle.bench.specs.Carry.{Outcome, taken}
+use Rattle.bench.specs.Steps.{benchOf, worksAfter, AtWork, decisionOf, decidedIn, benchBy, tallyBy, carriedBy}
 use Rattle.bench.specs.Run.{Listed, runRests}
 use Rattle.bench.proofs.Sound.{GoodBench, taken-good}
-use Rattle.bench.proofs.ByTally.{effect-parts, taken-by, taken-tallied}
+use Rattle.bench.proofs.ByTally.{taken-by, taken-tallied}
 
 -- Bytes that are written in two goes, the others behind the first, are written as one.
 pub written-both : (xs ys room : List ℕ) → length xs + length ys ≤ length room → written (xs ++ ys) room ≡ xs ++ written ys (drop (length xs) room)
@@ -47,43 +46,44 @@ records-long b sender [] (r ∷ rs) even = absurd (omega arith)
 records-long b sender (number ∷ numbers) [] even = absurd (omega arith)
 records-long b sender (number ∷ numbers) (r ∷ rs) even = omega (arith, records-long (taken b r .bench) sender numbers rs (omega arith))
 
--- The bench that the code holds in parts: a camera, entries and a tally. From its own parts, with a tally that is true of it, a bench is itself.
-abbrev pub benchOf : Camera → List Command → Tally → Bench
-benchOf camera entries t = record { camera = camera; store = storeOf entries t }
-
-pub own-parts : (b : Bench) (t : Tally) → Tallied (b .store) t → benchOf (b .camera) (b .store .entries) t ≡ b
-own-parts b t is = ap (λ (s : Store). record { camera = b .camera; store = s }) (is .same)
-
 -- Behind the first n of so many commands, with their records at the front of the room: the others, each as it finds the list, and the numbers of
--- their records give, from this bench on, the rest of what all of them give. The bench is sound there, and the tally true of it.
-pub record Behind (all : Listed) (many sender : ℕ) (room₀ room : List ℕ) (b : Bench) (t : Tally) (numbers : List ℕ) (rs : List (List ℕ)) (n : ℕ)
+-- their records give, from the bench that is at work here, the rest of what all of them give. It is sound, and its tally true of its macros.
+pub record Behind (all : Listed) (many sender : ℕ) (room₀ room : List ℕ) (w : Works) (pool numbers : List ℕ) (rs : List (List ℕ)) (n : ℕ)
     : Type 0 where
-  pub good : GoodBench b
-  pub tallied : Tallied (b .store) t
+  pub good : GoodBench (benchOf w pool)
+  pub tallied : Tallied (storeOf pool (w .tally)) (w .tally)
   pub same : length room ≡ length room₀
   pub even : length numbers ≡ length rs
   pub counted : n + length rs ≡ many
-  pub state : runRests b sender numbers rs .bench ≡ all .bench
-  pub records : take (n * 8) room ++ written (runRests b sender numbers rs .records) (drop (n * 8) room) ≡ written (all .records) room₀
+  pub state : runRests (benchOf w pool) sender numbers rs .bench ≡ all .bench
+  pub records : take (n * 8) room ++ written (runRests (benchOf w pool) sender numbers rs .records) (drop (n * 8) room) ≡ written (all .records) room₀
 
 -- The start.
-pub start : (b : Bench) (t : Tally) (sender : ℕ) (numbers : List ℕ) (rs : List (List ℕ)) (room : List ℕ) → GoodBench b → Tallied (b .store) t
-    → length numbers ≡ length rs → Behind (runRests b sender numbers rs) (length rs) sender room room b t numbers rs 0
-start b t sender numbers rs room good is even =
+pub start : (w : Works) (pool : List ℕ) (sender : ℕ) (numbers : List ℕ) (rs : List (List ℕ)) (room : List ℕ) → GoodBench (benchOf w pool)
+    → Tallied (storeOf pool (w .tally)) (w .tally) → length numbers ≡ length rs
+    → Behind (runRests (benchOf w pool) sender numbers rs) (length rs) sender room room w pool numbers rs 0
+start w pool sender numbers rs room good is even =
     record { good = good; tallied = is; same = refl; even = even; counted = omega arith; state = refl; records = refl }
 
 -- A turn: what was decided of the next command is carried out, and its record is put behind the others, with the next number.
-module _ {all : Listed} {many sender : ℕ} {room₀ room : List ℕ} {b : Bench} {t : Tally} {number : ℕ} {numbers r : List ℕ} {rs : List (List ℕ)} {n : ℕ}
-    (behind : Behind all many sender room₀ room b t (number ∷ numbers) (r ∷ rs) n)
+module _ {all : Listed} {many sender : ℕ} {room₀ room : List ℕ} {w : Works} {pool : List ℕ} {number : ℕ} {numbers r : List ℕ} {rs : List (List ℕ)}
+    {n : ℕ}
+    (behind : Behind all many sender room₀ room w pool (number ∷ numbers) (r ∷ rs) n)
     (fits : many * 8 ≤ length room₀) (decision : Decision) {told : Told} {part : List ℕ}
-    (decided : decisionOf decision ≡ decidedIn t r)
+    (decided : decisionOf decision ≡ decidedIn (w .tally) r)
     (tells : told ≡ decisionOf decision .told)
     (put : part ≡ written (recordBytes sender (told .code) (told .par) number) (take (length room - n * 8) (drop (n * 8) room))) where
-  module _ {after : Bench} {tally : Tally}
-      (bench-is : after ≡ benchBy b t (decisionOf decision .taken))
-      (tally-is : tally ≡ tallyBy t (decisionOf decision .taken)) where
+  abbrev b : Bench
+  b = benchOf w pool
+
+  abbrev t : Tally
+  t = w .tally
+
+  module _ {after : Works} {left : List ℕ}
+      (bench-is : benchOf after left ≡ benchBy b t (decisionOf decision .taken))
+      (tally-is : after .tally ≡ tallyBy t (decisionOf decision .taken)) where
     abbrev outcome : Outcome
-    outcome = record { told = told; bench = after }
+    outcome = record { told = told; bench = benchOf after left }
 
     -- This is what becomes of the command by the store's own rows; it leaves a sound bench, and the tally true of it.
     took : outcome ≡ taken b r
@@ -94,10 +94,11 @@ module _ {all : Listed} {many sender : ℕ} {room₀ room : List ℕ} {b : Bench
     good-after : GoodBench (outcome .bench)
     good-after = subst (λ (o : Outcome). GoodBench (o .bench)) (sym took) (taken-good b (behind .good) r)
 
-    tallied-after : Tallied (outcome .bench .store) tally
+    tallied-after : Tallied (outcome .bench .store) (after .tally)
     tallied-after =
-        let is : tally ≡ tallyBy t (decidedIn t r .taken) = tally-is ∙ ap (λ (a : Answer). tallyBy t (a .taken)) decided in
-        subst (λ (o : Outcome). Tallied (o .bench .store) tally) (sym took) (rw is (taken-tallied b t (behind .good) (behind .tallied) r))
+        let is : after .tally ≡ tallyBy t (decidedIn t r .taken) = tally-is ∙ ap (λ (a : Answer). tallyBy t (a .taken)) decided in
+        subst (λ (o : Outcome). Tallied (o .bench .store) (after .tally)) (sym took)
+        (subst (Tallied (taken b r .bench .store)) (sym is) (taken-tallied b t (behind .good) (behind .tallied) r))
 
     abbrev later : Listed
     later = runRests (outcome .bench) sender numbers rs
@@ -138,7 +139,7 @@ module _ {all : Listed} {many sender : ℕ} {room₀ room : List ℕ} {b : Bench
         ∙ length-append (take (n * 8) room ++ own) beyond
         ∙ omega (arith, front, size, length-drop (n * 8) room, length-drop 8 (drop (n * 8) room))
 
-    turn : Behind all many sender room₀ (putMid (n * 8) (length room - n * 8) room part) after tally numbers rs (n + 1)
+    turn : Behind all many sender room₀ (putMid (n * 8) (length room - n * 8) room part) after left numbers rs (n + 1)
     turn =
         record {
           good = good-after;
@@ -158,23 +159,23 @@ module _ {all : Listed} {many sender : ℕ} {room₀ room : List ℕ} {b : Bench
 
   -- The turn of a refused command, which leaves the bench and the tally,
   pub turn-refused : {verdict : Verdict} → decision ≡ Decision.Refused verdict
-      → Behind all many sender room₀ (putMid (n * 8) (length room - n * 8) room part) b t numbers rs (n + 1)
+      → Behind all many sender room₀ (putMid (n * 8) (length room - n * 8) room part) w pool numbers rs (n + 1)
   turn-refused is =
       turn (ap (λ (d : Decision). benchBy b t (decisionOf d .taken)) (sym is)) (ap (λ (d : Decision). tallyBy t (decisionOf d .taken)) (sym is))
 
   -- and that of an accepted one, which takes effect.
-  pub turn-accepted : {c : Command} {camera : Camera} {entries : List Command} {tally : Tally} → decision ≡ Decision.Accepted c
-      → camera ≡ cameraAfter (b .camera) c → entries ≡ entriesAfter (b .store .entries) t c → tally ≡ tallyAfter t c
-      → Behind all many sender room₀ (putMid (n * 8) (length room - n * 8) room part) (benchOf camera entries tally) tally numbers rs (n + 1)
-  turn-accepted is camera-is entries-is tally-is =
+  pub turn-accepted : {c : Command} {after : Works} {left : List ℕ} → decision ≡ Decision.Accepted c
+      → after ≡ worksAfter w c → left ≡ poolAfter pool t c
+      → Behind all many sender room₀ (putMid (n * 8) (length room - n * 8) room part) after left numbers rs (n + 1)
+  turn-accepted is after-is left-is =
       turn
-      (effect-parts b t _ camera-is entries-is tally-is refl ∙ ap (λ (d : Decision). benchBy b t (decisionOf d .taken)) (sym is))
-      (tally-is ∙ ap (λ (d : Decision). tallyBy t (decisionOf d .taken)) (sym is))
+      (rw (after-is, left-is) (ap (λ (d : Decision). benchBy b t (decisionOf d .taken)) (sym is)))
+      (rw after-is (ap (λ (d : Decision). tallyBy t (decisionOf d .taken)) (sym is)))
 
 -- The end: no command is left.
-module _ {all : Listed} {many sender : ℕ} {room₀ room : List ℕ} {b : Bench} {t : Tally} {n : ℕ}
-    (behind : Behind all many sender room₀ room b t [] [] n) where
-  bench-ended : b ≡ all .bench
+module _ {all : Listed} {many sender : ℕ} {room₀ room : List ℕ} {w : Works} {pool : List ℕ} {n : ℕ}
+    (behind : Behind all many sender room₀ room w pool [] [] n) where
+  bench-ended : benchOf w pool ≡ all .bench
   unfolding runRests
   bench-ended = behind .state
 
@@ -185,5 +186,8 @@ module _ {all : Listed} {many sender : ℕ} {room₀ room : List ℕ} {b : Bench
       ∙ ap (λ l. take (n * 8) room ++ l) (sym (with-room [] (drop (n * 8) room) (omega arith)))
       ∙ behind .records
 
-  pub all-ended : ((b ≡ all .bench) × (n ≡ many)) × (Tallied (b .store) t × (room ≡ written (all .records) room₀))
-  all-ended = ((bench-ended, omega (arith, behind .counted)), (behind .tallied, room-ended))
+  at-work : AtWork w pool
+  at-work = record { whole = behind .good .shaped .pool; sound = behind .good .sound; tallied = behind .tallied }
+
+  pub all-ended : (benchOf w pool ≡ all .bench) × (((n ≡ many) × AtWork w pool) × (room ≡ written (all .records) room₀))
+  all-ended = (bench-ended, ((omega (arith, behind .counted), at-work), room-ended))

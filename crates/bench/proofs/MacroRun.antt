@@ -18,7 +18,7 @@ use Rattle.text.specs.Assemble.{bytesIn}
 use Rattle.store.specs.declared.roles.Role.{Role}
 use Rattle.store.specs.declared.Store.{Store}
 use Rattle.store.specs.Roles.{isRun, isStop}
-use Rattle.store.specs.Slots.{isClosed}
+use Rattle.store.specs.Pool.{isClosed}
 use Rattle.store.specs.WrittenOut.{writtenOut}
 use Rattle.store.specs.Checks.{permitCode}
 use Rattle.store.specs.Effects.{nextEntry, afterSecond}

@@ -29,7 +29,7 @@ use Rattle.text.specs.Findings.{finding, nothing, whole, firstFound}
 use Rattle.text.specs.Assemble.{bytesIn, lineFindings, badLine}
 use Rattle.store.specs.Checks.{storeChecks}
 use Rattle.bench.specs.declared.Bench.{Bench}
-use Rattle.bench.specs.Status.{benchSound, soundCheck, statusAt}
+use Rattle.bench.specs.Status.{benchSound, soundCheck, statusAt, freeAt}
 use Rattle.bench.specs.Carry.{Outcome, effectOf, outcomeFor, commandChecks, carryChecks, carryOut, bytesChecks, carryBytesChecks, carryOutBytes}
 use Rattle.bench.specs.Second.{secondAt}
 use Rattle.bench.specs.Run.{runChecks, runCode, runOf}
@@ -123,6 +123,10 @@ second-refused b refused = go (benchSound b) refl
 pub status-order : (b : Bench) → Order (soundCheck b ∷ []) (statusAt b .code)
 unfolding statusAt
 status-order b = order (soundCheck b ∷ []) refl
+
+pub free-order : (b : Bench) → Order (soundCheck b ∷ []) (freeAt b .code)
+unfolding freeAt
+free-order b = order (soundCheck b ∷ []) refl
 
 -- The code of a run is the first of 20, 21 and 27 that is due; on a sound bench 27 is not.
 pub run-order : (b : Bench) (kit pupil room : List ℕ) → Order (runChecks b kit pupil room) (runOf b kit pupil room .code)

@@ -38,7 +38,7 @@ use Rattle.bench.proofs.Outcomes.{judge-then, read-then, carry-code, ca
 use Rattle.bench.proofs.InTurn.{leftBy, by-run, by-typed}
 use Rattle.bench.proofs.Camera.{GoodCamera, fresh-camera, camera-second, executed-good, handed-good}
 
--- A sound bench: it passes the test of 27, and its store has 192 slots, eight counts and eight marks, as every store of a program has by its type.
+-- A sound bench: it passes the test of 27, and its store has 576 words, eight counts and eight marks, as every store of a program has by its type.
 pub record GoodBench (b : Bench) : Type 0 where
   pub sound : benchSound b ≡ true
   pub shaped : Shaped (b .store)
@@ -211,7 +211,7 @@ pub second-is : (b : Bench) → GoodBench b → secondAt b .bench ≡ benchAfter
 unfolding secondAt
 second-is b good = rw (good .sound)
 
-second-sound : (b : Bench) → GoodBench b → GoodBench (benchAfter b)
+pub second-sound : (b : Bench) → GoodBench b → GoodBench (benchAfter b)
 second-sound b good =
     let h = facts-of b good in
     let plain = handed-plainly (b .store) (h .store) in

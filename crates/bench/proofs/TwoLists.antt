@@ -1,9 +1,9 @@
--- A whole run, from what the code finds: what a refused run leaves, that the kit's list leaves a sound bench to the pupil's, and that the records of
--- both lists, the pupil's put behind the kit's, are the report put as one.
+-- A whole run, from what the code finds: what a refused run leaves, and that the records of both lists, the pupil's put behind the kit's, are the
+-- report put as one.
 use Prim.Native.Nat.{ℕ, _+_, _*_, _-_, _≤_}
 use mathlib.Core.Path.{_≡_, refl, sym, ap, _∙_}
 use mathlib.Core.List.{List, _++_}
-use mathlib.Core.Bool.{true, false}
+use mathlib.Core.Bool.{false}
 use native.Mathlib.Omega.{arith}
 use lib.ListN.{length, take, drop, length-append, length-drop}
 use lib.Seq.{take-at, drop-at}
@@ -18,15 +18,9 @@ use Rattle.bench.specs.declared.lists.Ran.{Ran}
 use Rattle.bench.specs.declared.lists.Begun.{Begun}
 use Rattle.bench.specs.Run.{ownNumbers, runList, kitPart, pupilWith, pupilPart, reportWith, reportOf}
 use Rattle.bench.specs.Run.{runCode, begunCode, ranOf, runOf, roomAfter}
-use Rattle.bench.specs.Status.{benchSound}
 use Rattle.bench.specs.Steps.{refusedWith}
-use Rattle.bench.proofs.InTurn.{list-leaves, own-even}
-use Rattle.bench.proofs.Sound.{GoodBench, left-good}
+use Rattle.bench.proofs.InTurn.{own-even}
 use Rattle.bench.proofs.Listing.{records-long, written-both}
-
--- The kit's list leaves a sound bench.
-pub kit-keeps : (b : Bench) → GoodBench b → (kit : List ℕ) {b₁ : Bench} → b₁ ≡ kitPart b kit .bench → benchSound b₁ ≡ true
-kit-keeps b good kit is = rw (is, list-leaves b 1 (ownNumbers kit) (rests kit) (own-even kit)) (left-good b good (rests kit) .sound)
 
 -- The records of both lists have room, whatever the pupil's numbers are, and the kit's list was carried out with m records.
 module _ (b : Bench) (kit numbers pupil room : List ℕ) (even : length numbers ≡ length (rests pupil))

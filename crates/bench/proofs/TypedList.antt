@@ -28,19 +28,17 @@ use Rattle.text.proofs.Allowed.{AllAllowed, line-fine}
 use Rattle.text.proofs.Splitting.{lines-at, line-within}
 use Rattle.text.proofs.Found.{Silent, found-silent, whole-silent, fault-code}
 use Rattle.text.proofs.Assembled.{rests-listed, reads-listed}
-use Rattle.camera.specs.declared.Camera.{Camera}
-use Rattle.store.specs.declared.tally.Tally.{Tally}
-use Rattle.store.specs.TallySteps.{tallyAfter, entriesAfter, Tallied}
+use Rattle.store.specs.TallySteps.{storeOf, poolAfter, Tallied}
 use Rattle.bench.specs.declared.Bench.{Bench}
+use Rattle.bench.specs.declared.Works.{Works}
 use Rattle.bench.specs.declared.Verdict.{Verdict}
 use Rattle.bench.specs.declared.deciding.Decision.{Decision}
-use Rattle.bench.specs.Carry.{cameraAfter}
-use Rattle.bench.specs.Steps.{decisionOf, permittedBy, decidedIn}
+use Rattle.bench.specs.Steps.{benchOf, worksAfter, AtWork, decisionOf, permittedBy, decidedIn}
 use Rattle.bench.specs.Typed.{typedList}
 use Rattle.bench.proofs.InTurn.{typed-even}
 use Rattle.bench.proofs.Sound.{GoodBench}
 use Rattle.bench.proofs.Decisions.{read-passed}
-use Rattle.bench.proofs.Listing.{benchOf, own-parts, Behind}
+use Rattle.bench.proofs.Listing.{Behind}
 use Rattle.bench.proofs.Listing as listing
 
 -- A text that was judged good: it is not too long, no line of it is bad, and neither is its list too long.
@@ -72,36 +70,30 @@ pub good-lines : (text : List ℕ) → badLine text .told .code ≡ 0 → AllGoo
 good-lines text none = all-good 1 (linesOf text) (found-silent (lineFindings 1 (linesOf text)) none)
 
 -- Behind the first n commands, with these numbers and commands left of the text.
-abbrev Left : Bench → List ℕ → List ℕ → List ℕ → Bench → Tally → List ℕ → List Command → ℕ → Type 0
-Left b₀ text room₀ room b t numbers cs n =
-    Behind (typedList b₀ text) (length (rests (bytesIn text))) 2 room₀ room b t numbers (rests (listBytes cs)) n
+abbrev Left : Bench → List ℕ → List ℕ → List ℕ → Works → List ℕ → List ℕ → List Command → ℕ → Type 0
+Left b₀ text room₀ room w pool numbers cs n =
+    Behind (typedList b₀ text) (length (rests (bytesIn text))) 2 room₀ room w pool numbers (rests (listBytes cs)) n
 
 -- Behind the first so many lines of a text, which end at a place of it, and behind the first n commands.
-pub record AtLine (b₀ : Bench) (text room₀ room : List ℕ) (b : Bench) (t : Tally) (at number n : ℕ) : Type 0 where
+pub record AtLine (b₀ : Bench) (text room₀ room : List ℕ) (w : Works) (pool : List ℕ) (at number n : ℕ) : Type 0 where
   pub within : at ≤ length text + 1
   pub few : number ≤ at
   pub good : AllGood (linesOf (drop at text))
-  pub behind : Left b₀ text room₀ room b t (numbersIn (number + 1) (linesOf (drop at text))) (commandsIn (linesOf (drop at text))) n
+  pub behind : Left b₀ text room₀ room w pool (numbersIn (number + 1) (linesOf (drop at text))) (commandsIn (linesOf (drop at text))) n
 
--- The start, with the bench in parts.
-pub start : (b : Bench) (t : Tally) (text room : List ℕ) → GoodBench b → Tallied (b .store) t → badLine text .told .code ≡ 0
-    → (let own = benchOf (b .camera) (b .store .entries) t in AtLine own text room room own t 0 0 0)
-start b t text room sound is none =
-    subst (λ (own : Bench). AtLine own text room room own t 0 0 0) (sym (own-parts b t is))
-    (record {
+-- The start.
+pub start : (w : Works) (pool text room : List ℕ) → GoodBench (benchOf w pool) → Tallied (storeOf pool (w .tally)) (w .tally)
+    → badLine text .told .code ≡ 0 → AtLine (benchOf w pool) text room room w pool 0 0 0
+start w pool text room good is none =
+    record {
       within = omega arith;
       few = omega arith;
       good = good-lines text none;
-      behind = listing.start b t 2 (lineNumbers text) (rests (bytesIn text)) room sound is (typed-even text);
-    })
+      behind = listing.start w pool 2 (lineNumbers text) (rests (bytesIn text)) room good is (typed-even text);
+    }
 
--- Behind lines from a bench in parts is behind them from that bench.
-pub from-parts : {text room₀ room : List ℕ} {b₁ : Bench} {t₁ : Tally} {at number n : ℕ} (b : Bench) (t : Tally) → Tallied (b .store) t
-    → AtLine (benchOf (b .camera) (b .store .entries) t) text room₀ room b₁ t₁ at number n → AtLine b text room₀ room b₁ t₁ at number n
-from-parts {text} {room₀} {room} {b₁} {t₁} {at} {number} {n} b t is there =
-    subst (λ (own : Bench). AtLine own text room₀ room b₁ t₁ at number n) (own-parts b t is) there
-
-module _ {b₀ : Bench} {text room₀ room : List ℕ} {b : Bench} {t : Tally} {at number n : ℕ} (there : AtLine b₀ text room₀ room b t at number n) where
+module _ {b₀ : Bench} {text room₀ room : List ℕ} {w : Works} {pool : List ℕ} {at number n : ℕ}
+    (there : AtLine b₀ text room₀ room w pool at number n) where
   -- A turn, whose line stands at the place.
   module _ (more : at < length text) {line : List ℕ} (is-line : line ≡ frontOf 10 (take (length text - at) (drop at text))) where
     abbrev later : List (List ℕ)
@@ -115,15 +107,15 @@ module _ {b₀ : Bench} {text room₀ room : List ℕ} {b : Bench} {t : Tally} {
 
     -- What is left, where the line says these commands.
     abbrev With : List Command → Type 0
-    With cs = Left b₀ text room₀ room b t (map (λ (c : Command). number + 1) cs ++ numbers) (cs ++ commandsIn later) n
+    With cs = Left b₀ text room₀ room w pool (map (λ (c : Command). number + 1) cs ++ numbers) (cs ++ commandsIn later) n
 
     left : With (lineOf line .taken)
     unfolding numbersIn commandsIn
     left =
         let one : suc (number + 1) ≡ number + 1 + 1 = omega arith in
         let own = lineOf line .taken in
-        subst (λ m. Left b₀ text room₀ room b t (map (λ (c : Command). number + 1) own ++ numbersIn m later) (own ++ commandsIn later) n) one
-        (subst (λ ls. Left b₀ text room₀ room b t (numbersIn (number + 1) ls) (commandsIn ls) n) next (there .behind))
+        subst (λ m. Left b₀ text room₀ room w pool (map (λ (c : Command). number + 1) own ++ numbersIn m later) (own ++ commandsIn later) n) one
+        (subst (λ ls. Left b₀ text room₀ room w pool (numbersIn (number + 1) ls) (commandsIn ls) n) next (there .behind))
 
     goods : AllGood (line ∷ later)
     goods = subst AllGood next (there .good)
@@ -131,12 +123,12 @@ module _ {b₀ : Bench} {text room₀ room : List ℕ} {b : Bench} {t : Tally} {
     pub line-passes : at + (length line + 1) ≤ length text + 1
     line-passes = line-within text at more line is-line
 
-    goes : {room₁ : List ℕ} {b₁ : Bench} {t₁ : Tally} {n₁ : ℕ} → Left b₀ text room₀ room₁ b₁ t₁ numbers (commandsIn later) n₁
-        → AtLine b₀ text room₀ room₁ b₁ t₁ (at + (length line + 1)) (number + 1) n₁
+    goes : {room₁ : List ℕ} {w₁ : Works} {pool₁ : List ℕ} {n₁ : ℕ} → Left b₀ text room₀ room₁ w₁ pool₁ numbers (commandsIn later) n₁
+        → AtLine b₀ text room₀ room₁ w₁ pool₁ (at + (length line + 1)) (number + 1) n₁
     goes behind = record { within = line-passes; few = omega (arith, there .few); good = goods .1; behind = behind }
 
     -- A blank line is only counted.
-    pub turn-blank : answerLine Line.Blank ≡ lineOf line → AtLine b₀ text room₀ room b t (at + (length line + 1)) (number + 1) n
+    pub turn-blank : answerLine Line.Blank ≡ lineOf line → AtLine b₀ text room₀ room w pool (at + (length line + 1)) (number + 1) n
     turn-blank is = goes (subst With (sym (ap (λ (a : Answer). a .taken) is)) left)
 
     -- No line is bad.
@@ -159,7 +151,7 @@ module _ {b₀ : Bench} {text room₀ room : List ℕ} {b : Bench} {t : Tally} {
       own = listBytes (c ∷ commandsIn later)
 
       abbrev Rest : List (List ℕ) → Type 0
-      Rest rs = Behind (typedList b₀ text) (length (rests (bytesIn text))) 2 room₀ room b t ((number + 1) ∷ numbers) rs n
+      Rest rs = Behind (typedList b₀ text) (length (rests (bytesIn text))) 2 room₀ room w pool ((number + 1) ∷ numbers) rs n
 
       first : Rest (own ∷ rests (listBytes (commandsIn later)))
       first = subst Rest (rests-listed c (commandsIn later)) (subst With (sym says) left)
@@ -169,32 +161,30 @@ module _ {b₀ : Bench} {text room₀ room : List ℕ} {b : Bench} {t : Tally} {
       one-more = omega (arith, first .counted)
 
       module _ (fits : length (rests (bytesIn text)) * 8 ≤ length room₀) (decision : Decision) {told : Told} {part : List ℕ}
-          (decided : decisionOf decision ≡ permittedBy t c)
+          (decided : decisionOf decision ≡ permittedBy (w .tally) c)
           (tells : told ≡ decisionOf decision .told)
           (put : part ≡ written (recordBytes 2 (told .code) (told .par) (number + 1)) (take (length room - n * 8) (drop (n * 8) room))) where
         -- Rows 1 to 10 passed, so that rows 11 to 19 decide.
-        whole : decisionOf decision ≡ decidedIn t own
-        whole = decided ∙ read-passed t own c (sym (reads-listed c (commandsIn later) (allowed .0 .0) (allowed .0 .1)))
+        whole : decisionOf decision ≡ decidedIn (w .tally) own
+        whole = decided ∙ read-passed (w .tally) own c (sym (reads-listed c (commandsIn later) (allowed .0 .0) (allowed .0 .1)))
 
         pub turn-refused : {verdict : Verdict} → decision ≡ Decision.Refused verdict
-            → AtLine b₀ text room₀ (putMid (n * 8) (length room - n * 8) room part) b t (at + (length line + 1)) (number + 1) (n + 1)
+            → AtLine b₀ text room₀ (putMid (n * 8) (length room - n * 8) room part) w pool (at + (length line + 1)) (number + 1) (n + 1)
         turn-refused no-command = goes (listing.turn-refused first fits decision whole tells put no-command)
 
-        pub turn-accepted : {d : Command} {camera : Camera} {entries : List Command} {tally : Tally} → decision ≡ Decision.Accepted d
-            → camera ≡ cameraAfter (b .camera) d → entries ≡ entriesAfter (b .store .entries) t d → tally ≡ tallyAfter t d
-            → AtLine b₀ text room₀ (putMid (n * 8) (length room - n * 8) room part) (benchOf camera entries tally) tally
-            (at + (length line + 1)) (number + 1) (n + 1)
-        turn-accepted command camera-is entries-is tally-is =
-            goes (listing.turn-accepted first fits decision whole tells put command camera-is entries-is tally-is)
+        pub turn-accepted : {d : Command} {after : Works} {left : List ℕ} → decision ≡ Decision.Accepted d
+            → after ≡ worksAfter w d → left ≡ poolAfter pool (w .tally) d
+            → AtLine b₀ text room₀ (putMid (n * 8) (length room - n * 8) room part) after left (at + (length line + 1)) (number + 1) (n + 1)
+        turn-accepted command after-is left-is = goes (listing.turn-accepted first fits decision whole tells put command after-is left-is)
 
   -- The end: nothing is left of the text.
   pub text-ended : length text ≤ at
-      → ((b ≡ typedList b₀ text .bench) × (n ≡ length (rests (bytesIn text))))
-      × (Tallied (b .store) t × (room ≡ written (typedList b₀ text .records) room₀))
+      → (benchOf w pool ≡ typedList b₀ text .bench)
+      × (((n ≡ length (rests (bytesIn text))) × AtWork w pool) × (room ≡ written (typedList b₀ text .records) room₀))
   unfolding linesOf numbersIn commandsIn listBytes
   text-ended end =
       let none : drop at text ≡ [] = drop-of-length-le text {i = at} end in
-      let last : Left b₀ text room₀ room b t [] [] n =
-      subst (λ s. Left b₀ text room₀ room b t (numbersIn (number + 1) (linesOf s)) (commandsIn (linesOf s)) n) none (there .behind) in
+      let last : Left b₀ text room₀ room w pool [] [] n =
+      subst (λ s. Left b₀ text room₀ room w pool (numbersIn (number + 1) (linesOf s)) (commandsIn (linesOf s)) n) none (there .behind) in
       let all = typedList b₀ text in
-      listing.all-ended (subst (λ rs. Behind all (length (rests (bytesIn text))) 2 room₀ room b t [] rs n) rests-none last)
+      listing.all-ended (subst (λ rs. Behind all (length (rests (bytesIn text))) 2 room₀ room w pool [] rs n) rests-none last)

@@ -18,7 +18,8 @@ use Rattle.bench.specs.declared.Verdict.{Verdict}
 use Rattle.bench.specs.declared.Carried.{Carried}
 use Rattle.bench.specs.declared.Passed.{Passed}
 use Rattle.bench.specs.declared.Status.{Status}
-use Rattle.bench.specs.Status.{StatusTold, toldStatus}
+use Rattle.bench.specs.declared.Free.{Free}
+use Rattle.bench.specs.Status.{StatusTold, toldStatus, FreeTold, toldFree}
 use Rattle.bench.specs.Carry.{Outcome, verdictOf, outcomeOf}
 use Rattle.bench.specs.Second.{SecondTold, passedOf}
 
@@ -51,7 +52,7 @@ denial-place Denial.AnotherOpen = refl
 denial-place Denial.AlreadyClosed = refl
 denial-place Denial.NoEntries = refl
 denial-place Denial.TooLong = refl
-denial-place Denial.NoSlot = refl
+denial-place Denial.NoneFree = refl
 denial-place Denial.NotBelow = refl
 denial-place Denial.NotClosed = refl
 denial-place Denial.Running = refl
@@ -109,3 +110,14 @@ one-status = one-to-one toldStatus statusBack back
     back : (s : Status) → statusBack (toldStatus s) ≡ s
     back (Status.Known f) = refl
     back Status.Unsound = refl
+
+-- Two answers of `free` that tell the same are the same.
+pub one-free : (a b : Free) → toldFree a ≡ toldFree b → a ≡ b
+one-free = one-to-one toldFree freeBack back
+  where
+    freeBack : FreeTold → Free
+    freeBack t = cond (eqb (t .code) 0) (Free.Known (t .free)) Free.Unsound
+
+    back : (f : Free) → freeBack (toldFree f) ≡ f
+    back (Free.Known n) = refl
+    back Free.Unsound = refl

@@ -9,11 +9,12 @@ use Rattle.frame.specs.Rules.{frameRule}
 use Rattle.camera.specs.declared.Series.{Series}
 use Rattle.camera.specs.Series.{nextHolds}
 use Rattle.camera.specs.Camera.{freshCamera}
-use Rattle.store.specs.Slots.{marksOf}
+use Rattle.store.specs.Pool.{freeIn, marksOf}
 use Rattle.store.specs.Effects.{freshStore}
 use Rattle.store.specs.Sound.{storeSound}
 use Rattle.bench.specs.declared.Bench.{Bench}
 use Rattle.bench.specs.declared.Status.{Status}
+use Rattle.bench.specs.declared.Free.{Free}
 
 -- "Fresh: all numbers zero, both intervals 1, no macro open, closed or running."
 abbrev pub freshBench : Bench
@@ -67,3 +68,15 @@ toldStatus Status.Unsound = record { code = 27; shown = [] }
 unfoldable pub statusAt : Bench → StatusTold
 statusAt b =
     record { code = firstOf (soundCheck b ∷ []); shown = cond (benchSound b) (statusOf b ∷ []) [] }
+
+-- What asking for the free entries says (02, Q-9): a code, and how many are free, 0 where the code is not 0.
+pub record FreeTold : Type 0 where
+  pub code : ℕ
+  pub free : ℕ
+
+abbrev pub toldFree : Free → FreeTold
+toldFree (Free.Known n) = record { code = 0; free = n }
+toldFree Free.Unsound = record { code = 27; free = 0 }
+
+unfoldable pub freeAt : Bench → FreeTold
+freeAt b = record { code = firstOf (soundCheck b ∷ []); free = cond (benchSound b) (freeIn (b .store)) 0 }

@@ -1,15 +1,20 @@
 -- Steps of the implementation; no public promise of the product needs them.
--- What becomes of a command, from the tally of the macros alone, what a survey finds, and what refused calls hand back.
+-- A bench at work on a lent pool; what becomes of a command, from the tally of the macros alone; what a survey finds; and what refused calls hand
+-- back.
 use Prim.Native.Nat.{ℕ}
+use mathlib.Core.Path.{_≡_}
 use mathlib.Core.List.{List, [], _∷_, _++_}
+use mathlib.Core.Bool.{true}
+use lib.ListN.{length}
 use Rattle.wire.specs.declared.kinds.Command.{Command}
 use Rattle.wire.specs.Codes.{firstOf}
 use Rattle.wire.specs.Judge.{toldWith, argChecks}
 use Rattle.wire.specs.Read.{Answer, answerFor, readChecks, said}
 use Rattle.store.specs.declared.tally.Tally.{Tally}
 use Rattle.store.specs.declared.tally.Survey.{Survey}
-use Rattle.store.specs.TallySteps.{tallyOf, storeOf, tallyChecks, tallyCode, tallyAfter, entriesAfter}
+use Rattle.store.specs.TallySteps.{tallyOf, bareOf, storeOf, tallyChecks, tallyCode, tallyAfter, poolAfter, Tallied}
 use Rattle.bench.specs.declared.Bench.{Bench}
+use Rattle.bench.specs.declared.Works.{Works}
 use Rattle.bench.specs.declared.deciding.Decision.{Decision}
 use Rattle.bench.specs.declared.lists.Ran.{Ran}
 use Rattle.bench.specs.declared.lists.Begun.{Begun}
@@ -18,6 +23,23 @@ use Rattle.bench.specs.declared.lists.typed.TypedRan.{TypedRan}
 use Rattle.bench.specs.Status.{benchSound}
 use Rattle.bench.specs.Carry.{Outcome, verdictOf, cameraAfter}
 use Rattle.bench.specs.Second.{SecondTold}
+
+-- A bench at work, its pool lent beside it: what of a bench is at work, before the lengths of its macros are worked out; the bench that works and pool
+-- are; and what is at work after an accepted command.
+abbrev pub worksOf : Bench → Works
+worksOf b = record { camera = b .camera; tally = bareOf (b .store) }
+
+abbrev pub benchOf : Works → List ℕ → Bench
+benchOf w pool = record { camera = w .camera; store = storeOf pool (w .tally) }
+
+abbrev pub worksAfter : Works → Command → Works
+worksAfter w c = record { camera = cameraAfter (w .camera) c; tally = tallyAfter (w .tally) c }
+
+-- What a run is handed and hands on: a whole pool, on which a sound bench is at work, by a tally that is true of its macros.
+pub record AtWork (w : Works) (pool : List ℕ) : Type 0 where
+  pub whole : length pool ≡ 576
+  pub sound : benchSound (benchOf w pool) ≡ true
+  pub tallied : Tallied (storeOf pool (w .tally)) (w .tally)
 
 -- What a decision says: a code with its parameter, and the command where the code is 0.
 abbrev pub decisionOf : Decision → Answer
@@ -38,8 +60,7 @@ decidedIn t s = answerFor (firstOf (readChecks s ++ tallyChecks t (said s))) (sa
 
 -- A bench after a command took effect by the tally of its macros.
 abbrev pub effectBy : Bench → Tally → Command → Bench
-effectBy b t c =
-    record { camera = cameraAfter (b .camera) c; store = storeOf (entriesAfter (b .store .entries) t c) (tallyAfter t c) }
+effectBy b t c = benchOf (worksAfter (record { camera = b .camera; tally = t }) c) (poolAfter (b .store .pool) t c)
 
 -- What was decided, carried out: the bench and the tally after the command, if one was taken.
 abbrev pub benchBy : Bench → Tally → List Command → Bench

@@ -1,12 +1,14 @@
 // The bench: camera and macro store as one state that goes in by value and comes back. Every call judges the state that it is handed (27).
 // A refused command hands back the bench as it came.
 ghost use mathlib.Core.Path.{_≡_};
+ghost use mathlib.Core.List.{[]};
 ghost use Rattle.camera.specs.Camera.{cameraSecond};
 ghost use Rattle.store.specs.Effects.{handedOf};
-ghost use Rattle.bench.specs.Status.{freshBench, paceOf, statusOf, rulesHold, benchSound, toldStatus, statusAt};
+ghost use Rattle.store.specs.TallySteps.{poolAfter};
+ghost use Rattle.bench.specs.Status.{freshBench, paceOf, statusOf, rulesHold, benchSound, toldStatus, statusAt, toldFree, freeAt};
 ghost use Rattle.bench.specs.Carry.{verdictOf, outcomeOf, cameraAfter, carryOut, carryOutBytes};
 ghost use Rattle.bench.specs.Second.{passedOf, executedAll, secondAt};
-ghost use Rattle.bench.specs.Steps.{decisionOf, effectBy, carriedBy, surveyed, stayedAt};
+ghost use Rattle.bench.specs.Steps.{worksOf, worksAfter, benchOf, decisionOf, effectBy, carriedBy, surveyed, stayedAt};
 
 mod deciding;
 mod lists;
@@ -27,7 +29,6 @@ pub use lists::code_of;
 pub use lists::finding_of;
 use store::Denial;
 use store::Handed;
-use store::Slot;
 use store::Store;
 use store::Survey;
 use store::Tally;
@@ -65,6 +66,18 @@ pub enum Status {
     Unsound,
 }
 
+// How many macro entries are free.
+pub enum Free {
+    Known(u8),
+    Unsound,
+}
+
+// A bench at work without the pool of its macros' entries, which is lent beside it: the camera, and the tally of the macros.
+struct Works {
+    camera: Camera,
+    tally: Tally,
+}
+
 // The code and parameter of a verdict.
 pub fn told_of(verdict: Verdict) -> Told
     ensures { λ r. ⌜ r ≡ verdictOf verdict ⌝ }
@@ -99,6 +112,91 @@ fn camera_after(camera: Camera, command: Command) -> Camera
     } else {
         let kind = command.kind;
         camera.executed(kind)
+    }
+}
+
+// An accepted command takes effect on camera and tally, and on the lent pool.
+fn take_effect(works: Works, pool: &mut [u32; 576], command: Command) -> Works
+    ensures { λ r. ⌜ r ≡ worksAfter works command ⌝ }
+    ensures { λ r. ⌜ now (pool .exit) ≡ poolAfter (now (pool .entry)) (works .tally) command ⌝ }
+{
+    let camera = works.camera;
+    let tally = works.tally;
+    store::keep(pool, tally, command);
+    Works {
+        camera: camera_after(camera, command),
+        tally: tally.applied(command),
+    }
+}
+
+// The bench that is at work on this pool.
+fn bench_of(works: Works, pool: [u32; 576]) -> Bench
+    ensures { λ r. ⌜ r ≡ benchOf works pool ⌝ }
+{
+    let camera = works.camera;
+    let tally = works.tally;
+    let store = Store::of_parts(pool, tally);
+    Bench { camera, store }
+}
+
+// The fields of the status frame. They do not look at the pool.
+fn fields(works: Works) -> Frame
+    ensures { λ r. ⌜ r ≡ statusOf (benchOf works []) ⌝ }
+{
+    let camera = works.camera;
+    let tally = works.tally;
+    let image = camera.image;
+    let track = camera.track;
+    let image = pace_of(image);
+    let track = pace_of(track);
+    let closed = tally.closed;
+    Frame {
+        image,
+        track,
+        x: camera.x,
+        y: camera.y,
+        xgoal: camera.xgoal,
+        ygoal: camera.ygoal,
+        power: camera.power,
+        auto: camera.auto,
+        looping: camera.looping,
+        algorithm: camera.algorithm,
+        flushes: camera.flushes,
+        running: tally.running,
+        opened: tally.opened,
+        left: tally.left,
+        closed: store::marks_of(closed),
+    }
+}
+
+// The rules outside the macro store: those of the status frame, and of both series. They do not look at the pool.
+fn obeys(works: Works) -> bool
+    ensures { λ r. ⌜ r ≡ rulesHold (benchOf works []) ⌝ }
+{
+    if !frame::obeys(fields(works)) {
+        return false;
+    }
+    let camera = works.camera;
+    let image = camera.image;
+    if !image.is_paced() {
+        return false;
+    }
+    let track = camera.track;
+    track.is_paced()
+}
+
+// Whether the bench at work on this pool is sound, and the tally of its macros.
+fn survey(works: Works, pool: &[u32; 576]) -> Survey
+    ensures { λ r. ⌜ r ≡ surveyed (benchOf works (now (pool .entry))) ⌝ }
+{
+    let survey = store::survey(pool, works.tally);
+    if obeys(works) {
+        survey
+    } else {
+        Survey {
+            sound: false,
+            ..survey
+        }
     }
 }
 
@@ -139,73 +237,22 @@ impl Bench {
         Bench { camera, store }
     }
 
-    // The fields of the status frame.
-    fn fields(self) -> Frame
-        ensures { λ r. ⌜ r ≡ statusOf self ⌝ }
+    // The bench at work, without its pool; the lengths of its macros are not worked out.
+    fn works(self) -> Works
+        ensures { λ r. ⌜ r ≡ worksOf self ⌝ }
     {
         let camera = self.camera;
         let store = self.store;
-        let image = camera.image;
-        let track = camera.track;
-        let image = pace_of(image);
-        let track = pace_of(track);
-        Frame {
-            image,
-            track,
-            x: camera.x,
-            y: camera.y,
-            xgoal: camera.xgoal,
-            ygoal: camera.ygoal,
-            power: camera.power,
-            auto: camera.auto,
-            looping: camera.looping,
-            algorithm: camera.algorithm,
-            flushes: camera.flushes,
-            running: store.running,
-            opened: store.opened,
-            left: store.left,
-            closed: store.marks(),
-        }
-    }
-
-    // The rules outside the macro store: those of the status frame, and of both series.
-    fn obeys(self) -> bool
-        ensures { λ r. ⌜ r ≡ rulesHold self ⌝ }
-    {
-        if !frame::obeys(self.fields()) {
-            return false;
-        }
-        let camera = self.camera;
-        let image = camera.image;
-        if !image.is_paced() {
-            return false;
-        }
-        let track = camera.track;
-        track.is_paced()
+        let tally = store.bare();
+        Works { camera, tally }
     }
 
     // Is this state sound: do the fields of the status frame, both series and the macros obey their rules?
     pub fn is_sound(self) -> bool
         ensures { λ r. ⌜ r ≡ benchSound self ⌝ }
     {
-        let survey = self.survey();
+        let survey = survey(self.works(), &self.store.pool);
         survey.sound
-    }
-
-    // Whether this state is sound, and the tally of its macros.
-    fn survey(self) -> Survey
-        ensures { λ r. ⌜ r ≡ surveyed self ⌝ }
-    {
-        let store = self.store;
-        let survey = store.survey();
-        if self.obeys() {
-            survey
-        } else {
-            Survey {
-                sound: false,
-                ..survey
-            }
-        }
     }
 
     // An accepted command takes effect, by the tally of the macros.
@@ -213,14 +260,10 @@ impl Bench {
         ensures { λ r. ⌜ r ≡ effectBy self tally command ⌝ }
     {
         let camera = self.camera;
-        let camera = camera_after(camera, command);
         let store = self.store;
-        let mut entries = store.entries;
-        if let Slot::At(i) = tally.slot_for(command) {
-            entries[i] = command;
-        }
-        let store = Store::of_parts(entries, tally.applied(command));
-        Bench { store, camera }
+        let mut pool = store.pool;
+        let works = take_effect(Works { camera, tally }, &mut pool, command);
+        bench_of(works, pool)
     }
 
     // What was decided is carried out, by the tally of the macros.
@@ -246,7 +289,7 @@ impl Bench {
     pub fn carry_out(self, command: Command) -> Carried
         ensures { λ r. ⌜ outcomeOf r ≡ carryOut self command ⌝ }
     {
-        let survey = self.survey();
+        let survey = survey(self.works(), &self.store.pool);
         if !survey.sound {
             return Carried {
                 bench: self,
@@ -261,7 +304,7 @@ impl Bench {
     pub fn carry_out_bytes(self, bytes: &[u8]) -> Carried
         ensures { λ r. ⌜ outcomeOf r ≡ carryOutBytes self (now (bytes .entry)) ⌝ }
     {
-        let survey = self.survey();
+        let survey = survey(self.works(), &self.store.pool);
         if !survey.sound {
             return Carried {
                 bench: self,
@@ -276,17 +319,18 @@ impl Bench {
     pub fn second(self) -> Passed
         ensures { λ r. ⌜ passedOf r ≡ secondAt self ⌝ }
     {
-        if !self.obeys() {
+        let works = self.works();
+        if !obeys(works) {
             return stayed(self);
         }
-        let store = self.store;
-        let step = store.second();
+        let step = store::second(&self.store.pool, works.tally);
         if !step.sound {
             return stayed(self);
         }
         let handed = step.handed;
         let camera = self.camera;
         let camera = camera_second(camera, handed);
+        let store = self.store;
         let store = Store {
             running: step.running,
             left: step.left,
@@ -304,10 +348,25 @@ impl Bench {
     pub fn status(self) -> Status
         ensures { λ r. ⌜ toldStatus r ≡ statusAt self ⌝ }
     {
-        if self.is_sound() {
-            Status::Known(self.fields())
+        let works = self.works();
+        let survey = survey(works, &self.store.pool);
+        if survey.sound {
+            Status::Known(fields(works))
         } else {
             Status::Unsound
+        }
+    }
+
+    // The macro entries that are free: 27, else 192 less those of the open and the closed macros.
+    pub fn free(self) -> Free
+        ensures { λ r. ⌜ toldFree r ≡ freeAt self ⌝ }
+    {
+        let survey = survey(self.works(), &self.store.pool);
+        if survey.sound {
+            let tally = survey.tally;
+            Free::Known(tally.free())
+        } else {
+            Free::Unsound
         }
     }
 }

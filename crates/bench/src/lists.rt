@@ -1,25 +1,22 @@
 // The run of two lists, the kit's and then the pupil's, with a record of each command in a lent room. The state is judged once a run.
 ghost use Prim.Native.Nat.{_*_, _≤_};
 ghost use mathlib.Core.Path.{_≡_};
-ghost use mathlib.Core.Bool.{true};
 ghost use lib.ListN.{length};
 ghost use Rattle.words.specs.BigEndian.{written};
 ghost use Rattle.walk.specs.Walk.{rests};
-ghost use Rattle.store.specs.TallySteps.{Tallied};
-ghost use Rattle.bench.specs.Status.{benchSound};
 ghost use Rattle.bench.specs.Run.{begunCode, ownList, ranOf, runOf, roomAfter};
-ghost use Rattle.bench.specs.Steps.{refusedWith};
+ghost use Rattle.bench.specs.Steps.{benchOf, AtWork, refusedWith};
 
 mod typed;
 
 use super::Bench;
-use super::camera_after;
+use super::Works;
+use super::bench_of;
 use super::deciding::Decision;
 use super::deciding::decide_bytes;
 use super::deciding::told_by;
-use store::Slot;
-use store::Store;
-use store::Tally;
+use super::survey;
+use super::take_effect;
 pub use typed::TypedBegun;
 pub use typed::TypedRan;
 pub use typed::finding_of;
@@ -54,31 +51,27 @@ pub fn code_of(begun: Begun) -> u8
     }
 }
 
-// One list carried out: the bench afterwards with the tally of its macros, and how many commands the list had.
+// One list carried out: what is at work afterwards, and how many commands the list had.
 struct Part {
-    bench: Bench,
-    tally: Tally,
+    works: Works,
     count: u32,
 }
 
-// Carries a list out and puts the records of its commands, one after another, into the front of a room. The macros' entries stay where they are: each
-// command is judged by the tally, and an accepted append is put into its own slot.
-fn run_list(bench: Bench, tally: Tally, list: &[u8], sender: u8, room: &mut [u8]) -> Part
+// Carries a list out on a lent pool and puts the records of its commands, one after another, into the front of a room. Each command is judged by the
+// tally of the macros; the pool stays where it is, and an accepted append is put into it.
+fn run_list(works: Works, pool: &mut [u32; 576], list: &[u8], sender: u8, room: &mut [u8]) -> Part
     requires { ⌜ (length (now list) ≤ 4096) × (length (rests (now list)) * 8 ≤ length (now room)) ⌝ }
-    requires { ⌜ (benchSound bench ≡ true) × Tallied (bench .store) tally ⌝ }
-    ensures { λ r. ⌜ (r .bench ≡ ownList bench sender (now (list .entry)) .bench) × (r .count ≡ length (rests (now (list .entry)))) ⌝ }
-    ensures { λ r. ⌜ Tallied (r .bench .store) (r .tally) ⌝ }
-    ensures { λ r. ⌜ now (room .exit) ≡ written (ownList bench sender (now (list .entry)) .records) (now (room .entry)) ⌝ }
+    requires { ⌜ AtWork works (now pool) ⌝ }
+    ensures { λ r. ⌜ benchOf (r .works) (now (pool .exit)) ≡ ownList (benchOf works (now (pool .entry))) sender (now (list .entry)) .bench ⌝ }
+    ensures { λ r. ⌜ (r .count ≡ length (rests (now (list .entry)))) × AtWork (r .works) (now (pool .exit)) ⌝ }
+    ensures { λ r. ⌜ now (room .exit) ≡ written (ownList (benchOf works (now (pool .entry))) sender (now (list .entry)) .records) (now (room .entry)) ⌝ }
 {
-    let mut camera = bench.camera;
-    let store = bench.store;
-    let mut entries = store.entries;
-    let mut tally = tally;
+    let mut works = works;
     let mut at: usize = 0;
     let mut count: u32 = 0;
     while at < list.len() {
         let rest = &list[at..];
-        let decision = decide_bytes(tally, rest);
+        let decision = decide_bytes(works.tally, rest);
         let told = told_by(decision);
         let end = (count as usize) * report::RECORD;
         count += 1;
@@ -87,21 +80,11 @@ fn run_list(bench: Bench, tally: Tally, list: &[u8], sender: u8, room: &mut [u8]
         match decision {
             Decision::Refused(_) => continue,
             Decision::Accepted(command) => {
-                camera = camera_after(camera, command);
-                if let Slot::At(i) = tally.slot_for(command) {
-                    entries[i] = command;
-                }
-                tally = tally.applied(command);
+                works = take_effect(works, pool, command);
             }
         }
     }
-    let store = Store::of_parts(entries, tally);
-    let bench = Bench { camera, store };
-    Part {
-        bench,
-        tally,
-        count,
-    }
+    Part { works, count }
 }
 
 impl Bench {
@@ -119,17 +102,19 @@ impl Bench {
         if room.len() < ROOM {
             return refused(self, Begun::RoomTooSmall);
         }
-        let survey = self.survey();
+        let store = self.store;
+        let mut pool = store.pool;
+        let works = self.works();
+        let survey = survey(works, &pool);
         if !survey.sound {
             return refused(self, Begun::Unsound);
         }
         let tally = survey.tally;
-        let first = run_list(self, tally, kit, walk::KIT, room);
+        let works = Works { tally, ..works };
+        let first = run_list(works, &mut pool, kit, walk::KIT, room);
         let end = (first.count as usize) * report::RECORD;
-        let bench = first.bench;
-        let tally = first.tally;
-        let second = run_list(bench, tally, pupil, walk::PUPIL, &mut room[end..]);
-        let bench = second.bench;
+        let second = run_list(first.works, &mut pool, pupil, walk::PUPIL, &mut room[end..]);
+        let bench = bench_of(second.works, pool);
         Ran {
             bench,
             begun: Begun::Done,

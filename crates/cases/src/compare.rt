@@ -1,13 +1,11 @@
-// Two benches compared, in every field and every slot, in use or not.
-// Entries are the same where their flags, their opcodes and both arguments are; goals go by their bits.
+// Two benches compared, in every field and every word of the pool, in use or not.
 use bench::Bench;
 use camera::Camera;
 use camera::Series;
 use store::Store;
-use wire::Command;
 
-// The slots that a store has for entries.
-pub const SLOTS: usize = store::MACROS * store::ENTRIES;
+// The words of the pool, three to an entry.
+pub const WORDS: usize = 3 * store::ENTRIES;
 
 // The same series?
 fn same_series(a: Series, b: Series) -> bool {
@@ -29,29 +27,11 @@ fn same_camera(a: Camera, b: Camera) -> bool {
         && a.flushes == b.flushes
 }
 
-// The same entry?
-fn same_entry(a: Command, b: Command) -> bool {
-    let kind = a.kind;
-    let parts = wire::parts_of(kind);
-    let form = parts.form;
-    let row = wire::row_of(form);
-    let kind = b.kind;
-    let others = wire::parts_of(kind);
-    let form = others.form;
-    let other = wire::row_of(form);
-    a.flag == b.flag
-        && row.opcode == other.opcode
-        && parts.first == others.first
-        && parts.second == others.second
-}
-
-// The same entries in all slots?
-fn same_entries(a: Store, b: Store) -> bool {
+// The same words in the whole pool?
+fn same_pool(a: Store, b: Store) -> bool {
     let mut i: usize = 0;
-    while i < SLOTS {
-        let entry = a.entries[i];
-        let other = b.entries[i];
-        if !same_entry(entry, other) {
+    while i < WORDS {
+        if a.pool[i] != b.pool[i] {
             return false;
         }
         i += 1;
@@ -76,7 +56,5 @@ fn same_macros(a: Store, b: Store) -> bool {
 
 // Is the second bench the first, as it came?
 pub fn same(a: Bench, b: Bench) -> bool {
-    same_camera(a.camera, b.camera)
-        && same_macros(a.store, b.store)
-        && same_entries(a.store, b.store)
+    same_camera(a.camera, b.camera) && same_macros(a.store, b.store) && same_pool(a.store, b.store)
 }

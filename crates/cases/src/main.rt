@@ -73,6 +73,8 @@ fn single(line: &[u8], s: &[u8]) {
 fn looked(b: Bench, line: &[u8], s: &[u8]) {
     if lines::begins(line, b"status ") {
         telling::status(b"", b);
+    } else if lines::begins(line, b"free ") {
+        telling::free(b"free ", b);
     } else if lines::begins(line, b"state ") {
         states::state(setting::set(b, s));
     } else if lines::begins(line, b"run ") {

@@ -1,15 +1,14 @@
 // `set` writes fields of the bench whatever the rules say, so that unsound states can be made: one byte says which, and their values come behind it.
 // Any other byte, and none at all, leaves the bench as it is.
-use super::compare::SLOTS;
-use super::decoded;
-use super::lines;
+use super::compare::WORDS;
 use bench::Bench;
 use camera::Camera;
 use camera::Series;
 use store::Store;
 
 // What the first byte says. Of a series come time, interval, next and the images so far; with ROLES the running macro, the open one and the
-// seconds left; of a macro its number, how many entries it has, and 1 where it is closed; of an entry its slot and a decoded command.
+// seconds left; of a macro its number, how many entries it has, and 1 where it is closed; of an entry its place in the pool and its flag, opcode and
+// arguments, or its place and its three words as they are.
 const IMAGE: u8 = 1;
 
 const TRACK: u8 = 2;
@@ -25,6 +24,8 @@ const ROLES: u8 = 6;
 const MACRO: u8 = 7;
 
 const ENTRY: u8 = 8;
+
+const ENTRY_WORDS: u8 = 9;
 
 // The series that a line says; the images so far are none where they are left out.
 fn series(s: &[u8]) -> Series {
@@ -77,15 +78,29 @@ fn with_macro(store: Store, s: &[u8]) -> Store {
     store
 }
 
-// The store with an entry in one slot.
-fn with_entry(store: Store, s: &[u8]) -> Store {
+// The store with these words as an entry of the pool.
+fn with_words(store: Store, place: u8, head: u32, first: u32, second: u32) -> Store {
     let mut store = store;
-    let slot = words::byte_at(s, 1) as usize;
-    let entry = decoded::command(lines::part(s, 2, s.len()));
-    if slot < SLOTS {
-        store.entries[slot] = entry;
+    let at = (place as usize) * 3;
+    if at + 2 < WORDS {
+        store.pool[at] = head;
+        store.pool[at + 1] = first;
+        store.pool[at + 2] = second;
     }
     store
+}
+
+// The store with a flag, an opcode and two arguments as an entry, whatever they are.
+fn with_entry(store: Store, s: &[u8]) -> Store {
+    let flag = (words::byte_at(s, 2) % 2) as u32;
+    let head = (words::half_at(s, 3) as u32) * 2 + flag;
+    with_words(
+        store,
+        words::byte_at(s, 1),
+        head,
+        words::word_at(s, 5),
+        words::word_at(s, 9),
+    )
 }
 
 // The store with the line's fields in it.
@@ -99,6 +114,13 @@ fn with_store(store: Store, s: &[u8]) -> Store {
         },
         MACRO => with_macro(store, s),
         ENTRY => with_entry(store, s),
+        ENTRY_WORDS => with_words(
+            store,
+            words::byte_at(s, 1),
+            words::word_at(s, 2),
+            words::word_at(s, 6),
+            words::word_at(s, 10),
+        ),
         _ => store,
     }
 }

@@ -1,10 +1,11 @@
-// `state`: the bench, with fields written as `set` does, is given to every call that takes one: a FLUSH to carry out, a second, the status, and two
-// lists of a FLUSH each to run, the second one raw and then typed. Each answers with its code, 27 where the state is not sound, and with the state as it
-// came or changed.
+// `state`: the bench, with fields written as `set` does, is given to every call that takes one: a FLUSH to carry out, a second, the status, the free
+// entries, and two lists of a FLUSH each to run, the second one raw and then typed. Each answers with its code, 27 where the state is not sound, and
+// with the state as it came or changed.
 use super::asking;
 use super::compare;
 use super::rooms;
 use super::say;
+use super::telling;
 use bench::Bench;
 use bench::Carried;
 use bench::Status;
@@ -85,6 +86,7 @@ pub fn state(b: Bench) {
         Status::Known(_) => say::text(b", status 0"),
         Status::Unsound => say::text(b", status 27"),
     }
+    telling::free(b", free ", b);
     run(b, bytes);
     typed(b, bytes);
 }

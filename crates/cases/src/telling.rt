@@ -1,7 +1,8 @@
 // The status of a bench in one line: every field of its status frame by name. Goals are bits in hex, power, auto flush and loop 0 or 1; 255 is no
-// macro, and `closed` has bit m for macro m.
+// macro, and `closed` has bit m for macro m. Beside it the free entries, which the frame does not have.
 use super::say;
 use bench::Bench;
+use bench::Free;
 use bench::Status;
 use frame::Frame;
 use frame::Pace;
@@ -56,5 +57,16 @@ pub fn status(parting: &[u8], b: Bench) {
     match b.status() {
         Status::Known(f) => fields(f),
         Status::Unsound => say::text(b"status 27"),
+    }
+}
+
+// The code of asking for the free entries, and how many there are where it is 0, behind this name.
+pub fn free(name: &[u8], b: Bench) {
+    match b.free() {
+        Free::Known(count) => {
+            say::field8(name, 0);
+            say::field8(b" ", count);
+        }
+        Free::Unsound => say::field8(name, 27),
     }
 }

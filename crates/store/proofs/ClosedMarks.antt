@@ -8,7 +8,8 @@ use lib.ListN.{getD, List·getD-eq-default}
 use lib.Dec.{ltb, eqb}
 use borrow.Author.Tests.{ltb-true, ltb-false}
 use Rattle.store.specs.declared.Store.{Store}
-use Rattle.store.specs.Slots.{bit, marksOf, isClosed}
+use Rattle.store.specs.Words.{bit}
+use Rattle.store.specs.Pool.{marksOf, isClosed}
 use Rattle.store.proofs.Sound.{Shaped}
 use Rattle.store.proofs.Laws.{bit-small}
 

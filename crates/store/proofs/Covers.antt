@@ -14,22 +14,23 @@ use Rattle.store.specs.declared.Store.{Store}
 use Rattle.store.specs.declared.roles.Role.{Role}
 use Rattle.store.specs.declared.lookup.Covering.{Covering}
 use Rattle.store.specs.Roles.{roleOf}
-use Rattle.store.specs.Slots.{isClosed, entriesOf}
+use Rattle.store.specs.Pool.{isClosed, sizeOf, startOf, between, entriesOf}
 use Rattle.store.specs.WrittenOut.{writtenOut}
 use Rattle.store.specs.LookupSteps.{Asked, TellsBelow, runSpan, spanIn, coverAs, coverIn}
 use Rattle.store.proofs.Parts.{partAs, partsOf, look, parts-are}
+use Rattle.store.proofs.Walk.{entries-at}
 use Rattle.store.proofs.Lengths.{span-told}
 
 -- One turn of the search: the second is in this entry, or in the rest so much earlier; where there are no entries, nothing covers it.
-module _ (closed : List Bool) (table : List ℕ) (m : ℕ) (e : Command) (es rest : List Command) (role : Role) (span k : ℕ)
-    (from : es ≡ e ∷ rest) (is : role ≡ roleOf (e .kind)) (spans : span ≡ spanIn closed table m role) where
-  pub cover-here : k < span → coverIn closed table m es k ≡ coverAs role (e .kind) k
+module _ (closed : List Bool) (table : List ℕ) (m : ℕ) (e : Command) (es rest : List Command) (span k : ℕ) (from : es ≡ e ∷ rest)
+    (spans : span ≡ spanIn closed table m (roleOf (e .kind))) where
+  pub cover-here : k < span → coverIn closed table m es k ≡ coverAs (roleOf (e .kind)) (e .kind) k
   unfolding coverIn
-  cover-here here = rw (from, ← is, ← spans, lt-ltb k span here)
+  cover-here here = rw (from, ← spans, lt-ltb k span here)
 
   pub cover-on : span ≤ k → coverIn closed table m es k ≡ coverIn closed table m rest (k - span)
   unfolding coverIn
-  cover-on past = rw (from, ← is, ← spans, le-ltb k span past)
+  cover-on past = rw (from, ← spans, le-ltb k span past)
 
 pub cover-none : (closed : List Bool) (table : List ℕ) (m k : ℕ) (es : List Command) → es ≡ [] → coverIn closed table m es k ≡ Covering.Nothing
 unfolding coverIn
@@ -147,13 +148,17 @@ module _ (s : Store) (m : ℕ) (table : List ℕ) (told : TellsBelow s m table) 
   second-seen k h = ap (λ l. getD l k []) (parts-are s m) ∙ parts-seen (entriesOf s m) k h
 
 -- What the lookup finds is what second k hands over; where it leads into a target, the same is asked of that one.
-module _ (s : Store) (m k : ℕ) (table : List ℕ) (covering found : Covering) (asked : Asked s m k table)
-    (covers : covering ≡ coverIn (s .closed) table m (entriesOf s m) k) (is : covering ≡ found) where
+module _ (s : Store) (m k start size : ℕ) (table : List ℕ) (covering found : Covering) (asked : Asked s m k table)
+    (starts : start ≡ startOf (s .counts) (s .closed) (s .opened) m) (sized : size ≡ sizeOf (s .counts) (s .closed) (s .opened) m)
+    (covers : covering ≡ coverIn (s .closed) table m (between (s .pool) start size) k) (is : covering ≡ found) where
+  found-as : found ≡ coverIn (s .closed) table m (entriesOf s m) k
+  found-as = sym is ∙ covers ∙ ap (λ es. coverIn (s .closed) table m es k) (entries-at s m start size starts sized)
+
   pub found-seen : seen s found ≡ getD (writtenOut s m) k []
-  found-seen = rw (← is, covers) (sym (second-seen s m table (asked .told) k (asked .within)))
+  found-seen = ap (seen s) found-as ∙ sym (second-seen s m table (asked .told) k (asked .within))
 
   pub found-falls : Falls m k found
-  found-falls = rw (← is, covers) (cover-falls (s .closed) table m (entriesOf s m) k)
+  found-falls = rw found-as (cover-falls (s .closed) table m (entriesOf s m) k)
 
 pub asked-below : (s : Store) (m k target rest : ℕ) (table : List ℕ) → Asked s m k table → (target < m) × (rest ≤ k) → Asked s target rest table
 asked-below s m k target rest table asked falls =

@@ -12,7 +12,7 @@ use Rattle.wire.specs.declared.kinds.Command.{Command}
 use Rattle.store.specs.declared.Store.{Store}
 use Rattle.store.specs.declared.roles.Role.{Role}
 use Rattle.store.specs.Roles.{roleOf}
-use Rattle.store.specs.Slots.{isClosed, entriesOf}
+use Rattle.store.specs.Pool.{isClosed, entriesOf}
 use Rattle.store.specs.WrittenOut.{expandAs, expand, flatBelow, flat, handOver, seconds, writtenOut}
 
 -- What `flatBelow` hands an entry for a RUN's target: the target's list where it is closed.

@@ -15,7 +15,7 @@ use Rattle.wire.specs.Judge.{firstBad, judgeCode}
 use Rattle.store.specs.declared.Store.{Store}
 use Rattle.store.specs.declared.roles.Role.{Role}
 use Rattle.store.specs.Roles.{roleOf}
-use Rattle.store.specs.Slots.{isClosed, entriesOf}
+use Rattle.store.specs.Pool.{isClosed, entriesOf}
 use Rattle.store.specs.WrittenOut.{expandAs, expand, flatBelow, flat, handOver, seconds, writtenOut}
 use Rattle.store.specs.Effects.{nextEntry}
 use Rattle.store.proofs.Flat.{Each, lookBelow, flat-at, flat-other}

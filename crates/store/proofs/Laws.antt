@@ -1,23 +1,19 @@
 -- Laws of the store's meanings that the proofs of its functions share.
-use Prim.Native.Nat.{ℕ, _≤_, _<_, min}
-use mathlib.Core.Path.{_≡_, refl, sym, _∙_}
+use Prim.Native.Nat.{ℕ, _≤_, min}
+use mathlib.Core.Path.{_≡_, refl, sym}
 use mathlib.Core.List.{List, [], _∷_}
-use mathlib.Core.Bool.{Bool, true, false, cond, not, _&&_, true≢false}
+use mathlib.Core.Bool.{Bool, true, false, true≢false}
 use native.Mathlib.Omega.{arith}
 use lib.ListN.{length, getD, set, List·getD-eq-default}
 use lib.Seq.{set-out}
-use lib.Dec.{leb, ltb}
+use lib.Dec.{ltb}
 use denote.Enum.Declared.{tagOf}
 use types.Run.{OneOf, miss}
-use borrow.Author.Tests.{lt-ltb, le-ltb, ltb-true, ltb-false, leb-true, leb-false, not-true}
-use Rattle.words.proofs.Tests.{both}
-use Rattle.wire.specs.declared.kinds.Command.{Command}
+use borrow.Author.Tests.{lt-ltb, le-ltb, ltb-true, ltb-false}
 use Rattle.store.specs.declared.roles.Role.{Role}
-use Rattle.store.specs.declared.tally.Tally.{Tally}
-use Rattle.store.specs.declared.tally.Slot.{Slot}
 use Rattle.store.specs.Roles.{isPlain, isOpen, isClose, isRun, isClear}
-use Rattle.store.specs.Slots.{bit, slotAt}
-use Rattle.store.specs.TallySteps.{passesBy, openCount, hasSlot, slotFor}
+use Rattle.store.specs.Words.{bit}
+use Rattle.store.specs.TallySteps.{passesBy}
 use Rattle.store.proofs.roles.Role.{the-type}
 
 -- Past the end of a list nothing is read, and nothing is written.
@@ -26,14 +22,6 @@ read-past l d m n e h = sym (List·getD-eq-default l d (omega arith))
 
 pub set-past : {A : Type 0} (l : List A) (a : A) (m n : ℕ) → length l ≡ n → n ≤ m → l ≡ set l m a
 set-past l a m n e h = sym (set-out l m a (omega arith))
-
--- Below is not at least.
-pub below-not : (a b : ℕ) → ltb a b ≡ not (leb b a)
-below-not a b = go (leb b a) refl
-  where
-    go : (t : Bool) → leb b a ≡ t → ltb a b ≡ not t
-    go true e = le-ltb a b (leb-true b a e)
-    go false e = lt-ltb a b (leb-false b a e)
 
 -- A bit is at most 1.
 pub bit-small : (t : Bool) → bit t ≤ 1
@@ -47,25 +35,6 @@ over-capped n = go (ltb 600 n) refl
     go : (t : Bool) → ltb 600 n ≡ t → ltb 600 (min 601 n) ≡ t
     go true e = lt-ltb 600 (min 601 n) (omega (arith, ltb-true 600 n e))
     go false e = le-ltb 600 (min 601 n) (omega (arith, ltb-false 600 n e))
-
--- A macro with a slot to spare is one of the eight, and has fewer than 24 entries.
-pub slot-free : (counts : List ℕ) (m : ℕ) (free : Bool) → free ≡ hasSlot counts m → free ≡ true → (m < 8) × (getD counts m 0 < 24)
-slot-free counts m free is holds =
-    let full = leb 24 (getD counts m 0) in
-    let tests = both (ltb m 8) (not full) (sym is ∙ holds) in
-    (ltb-true m 8 (tests .0), leb-false 24 (getD counts m 0) (not-true full (tests .1)))
-
--- So a command's slot is one of the 192.
-pub slot-within : (t : Tally) (c : Command) (i : ℕ) → Slot.At i ≡ slotFor t c → i < 192
-slot-within t c i e = go (c .flag && hasSlot (t .counts) (t .opened)) refl e
-  where
-    go : (free : Bool) → free ≡ (c .flag && hasSlot (t .counts) (t .opened))
-        → Slot.At i ≡ cond free (Slot.At (slotAt (t .opened) (openCount t))) Slot.Nowhere → i < 192
-    go true is at =
-        let tests = both (c .flag) (hasSlot (t .counts) (t .opened)) (sym is) in
-        let place : i ≡ slotAt (t .opened) (openCount t) = cc in
-        omega (arith, slot-free (t .counts) (t .opened) (hasSlot (t .counts) (t .opened)) refl (tests .1))
-    go false is at = absurd (let z : _≡_ {A = ℕ} 0 1 = cc in omega arith)
 
 -- The tags of the roles that a test of roles does not pass, and that a role with such a tag does not.
 abbrev unplain : List ℕ

@@ -12,8 +12,9 @@ use Rattle.wire.specs.declared.kinds.Command.{Command}
 use Rattle.store.specs.declared.Store.{Store}
 use Rattle.store.specs.declared.roles.Role.{Role}
 use Rattle.store.specs.Roles.{roleOf}
-use Rattle.store.specs.Slots.{isClosed, entriesOf}
+use Rattle.store.specs.Pool.{isClosed, entriesOf}
 use Rattle.store.specs.WrittenOut.{expandAs, expand, flatBelow, flat, seconds, writtenOut}
+use Rattle.store.proofs.Kept.{entries-none}
 use Rattle.store.proofs.Flat.{lookBelow, flat-own, flat-fuel, flat-past, written-frame, seconds-append}
 
 -- The seconds of one entry; `look` gives those of a RUN's target.
@@ -129,10 +130,6 @@ part-other s m e Role.Stop role one = rw role
 part-other s m e Role.Clear role one = rw role
 
 -- A number that no macro has has no entries, and no seconds.
-entries-none : (s : Store) (m : ℕ) → length (s .counts) ≡ 8 → 8 ≤ m → entriesOf s m ≡ []
-unfolding entriesOf
-entries-none s m h past = rw (List·getD-eq-default (s .counts) 0 {n = m} (omega arith))
-
 pub none-past : (s : Store) (m : ℕ) → length (s .counts) ≡ 8 → 8 ≤ m → writtenOut s m ≡ []
 unfolding partsOf
-none-past s m h past = rw (parts-are, entries-none s m h past)
+none-past s m h past = rw (parts-are, entries-none s m (List·getD-eq-default (s .counts) 0 (omega arith)))

@@ -1,7 +1,7 @@
 -- A macro that runs: its list and its length, what commands leave of it, and what each second hands over.
 use Prim.Native.Nat.{ℕ, suc, _-_, _≤_, _<_}
 use mathlib.Core.Path.{_≡_, refl, sym, ap, _∙_}
-use mathlib.Core.List.{List, [], _++_}
+use mathlib.Core.List.{List, [], _∷_, _++_}
 use mathlib.Core.Bool.{Bool, true, false, cond, not, _&&_, true≢false, false≢true}
 use native.Mathlib.Omega.{arith}
 use lib.ListN.{length, getD}
@@ -11,17 +11,20 @@ use Rattle.words.proofs.Tests.{both}
 use Rattle.wire.specs.declared.kinds.Kind.{Kind}
 use Rattle.wire.specs.declared.kinds.Command.{Command}
 use Rattle.wire.specs.Judge.{judgeCode}
+use Rattle.wire.proofs.RoundTrip.{Held}
 use Rattle.store.specs.declared.Store.{Store}
 use Rattle.store.specs.declared.roles.Role.{Role}
 use Rattle.store.specs.Roles.{roleOf, isRun, isClear, numberOf, isStop}
-use Rattle.store.specs.Slots.{countOf, isClosed, entriesOf, kept}
+use Rattle.store.specs.Pool.{isClosed, usedIn, entriesOf, kept}
 use Rattle.store.specs.WrittenOut.{writtenOut}
 use Rattle.store.specs.Checks.{permitCode}
 use Rattle.store.specs.Effects.{startedOf, executedAs, appliedOf, nextEntry, afterSecond, countedDown}
+use Rattle.store.proofs.Entries.{storedAs, stored-same}
+use Rattle.store.proofs.Kept.{kept-own}
 use Rattle.store.proofs.Parts.{partAs, partsOf, look, partOf, look-frame}
 use Rattle.store.proofs.WrittenOut.{written-is, written-last}
-use Rattle.store.proofs.Sound.{Good, Extends, extends-self, Passed, none-runs, closed-small, lists-stay, runs-extends}
-use Rattle.store.proofs.Sound.{opened-extends, closed-extends, kept-extends, kept-own, appends, applied-executed, executed-passed}
+use Rattle.store.proofs.Sound.{Good, Extends, extends-self, Passed, none-runs, InRange, judged-role, closed-small, lists-stay, runs-extends}
+use Rattle.store.proofs.Sound.{opened-extends, closed-extends, kept-extends, Appends, appends, applied-executed, executed-passed}
 
 -- A closed macro of a sound store lasts 1 to 600 seconds.
 pub record Lasts (s : Store) (m : ℕ) : Type 0 where
@@ -53,10 +56,10 @@ by-flag P s c append execute = go (c .flag) refl
     go false e = rw (applied-executed s c e) (execute e)
 
 -- What a test of an executed command says of its role, where it fails and where it holds.
-executed-test : (c : Command) (b : Bool) → c .flag ≡ false → (not (c .flag) && b) ≡ false → b ≡ false
+pub executed-test : (c : Command) (b : Bool) → c .flag ≡ false → (not (c .flag) && b) ≡ false → b ≡ false
 executed-test c b e h = rw e at h
 
-executed-now : (c : Command) (b : Bool) → (not (c .flag) && b) ≡ true → (c .flag ≡ false) × (b ≡ true)
+pub executed-now : (c : Command) (b : Bool) → (not (c .flag) && b) ≡ true → (c .flag ≡ false) × (b ≡ true)
 executed-now c b h =
     let p = both (not (c .flag)) b h in
     (not-true (c .flag) (p .0), p .1)
@@ -77,14 +80,14 @@ pub record Started (s : Store) (m : ℕ) (t : Store) : Type 0 where
   pub list : writtenOut t m ≡ writtenOut s m
 
 -- An executed command by its role. Every one that passed the rows, but CLEAR, keeps the closed macros.
-executed-extends : (s : Store) → Good s → (r : Role) → Passed s false r → isClear r ≡ false → Extends s (executedAs s r)
-executed-extends s good Role.Plain h other = extends-self s
-executed-extends s good (Role.Open m) h other = opened-extends s m (h .no13)
-executed-extends s good Role.Close h other = closed-extends s (good .shaped)
-executed-extends s good (Role.Run m) h other = runs-extends s m (length (writtenOut s m))
-executed-extends s good (Role.Wait n) h other = extends-self s
-executed-extends s good Role.Stop h other = runs-extends s 255 0
-executed-extends s good Role.Clear h other = absurd (true≢false other)
+executed-extends : (s : Store) → Good s → (r : Role) → InRange r → Passed s false r → isClear r ≡ false → Extends s (executedAs s r)
+executed-extends s good Role.Plain range h other = extends-self s
+executed-extends s good (Role.Open m) range h other = opened-extends s (good .shaped) m range (none-runs (s .opened) (h .no12)) (h .no13)
+executed-extends s good Role.Close range h other = closed-extends s (good .shaped)
+executed-extends s good (Role.Run m) range h other = runs-extends s m (length (writtenOut s m))
+executed-extends s good (Role.Wait n) range h other = extends-self s
+executed-extends s good Role.Stop range h other = runs-extends s 255 0
+executed-extends s good Role.Clear range h other = absurd (true≢false other)
 
 -- Row 19: what passes while a macro runs is neither a RUN nor a CLEAR.
 busy-passed : (s : Store) (r : Role) → Passed s false r → (s .running ≡ 255 → ⊥) → (isRun r ≡ false) × (isClear r ≡ false)
@@ -147,10 +150,13 @@ executed-idle s r run free = go (isStop r) refl
     go true e = executed-stops s r e
     go false e = executed-run s r run e .0 ∙ free
 
--- An append leaves the run.
-kept-run : (s : Store) (m : ℕ) (c : Command) → (kept s m c .running ≡ s .running) × (kept s m c .left ≡ s .left)
+-- An accepted append keeps the closed macros, and leaves the run.
+kept-closed : (s : Store) → Good s → (c : Command) → Appends s c → Extends s (appliedOf s c)
+kept-closed s good c a = rw (a .effect) (kept-extends s (good .shaped) c (a .small) (a .room) (good .marks .unclosed))
+
+kept-run : (s : Store) (c : Command) → (kept s c .running ≡ s .running) × (kept s c .left ≡ s .left)
 unfolding kept
-kept-run s m c = (refl, refl)
+kept-run s c = (refl, refl)
 
 -- What an accepted command does to the closed macros and to the run.
 module _ (s : Store) (good : Good s) (c : Command) (judge : judgeCode c ≡ 0) (permit : permitCode s c ≡ 0) where
@@ -158,8 +164,11 @@ module _ (s : Store) (good : Good s) (c : Command) (judge : judgeCode c ≡ 0) (
   pub applied-extends : clearsAll c ≡ false → Extends s (appliedOf s c)
   applied-extends other =
       by-flag (λ t. Extends s t) s c
-      (λ e. let a = appends s good c e judge permit in rw (a .effect) (kept-extends s (s .opened) c (a .room) (good .marks .unclosed)))
-      (λ e. executed-extends s good (roleOf (c .kind)) (executed-passed s c e permit) (executed-test c (isClear (roleOf (c .kind))) e other))
+      (λ e. kept-closed s good c (appends s good c e judge permit))
+      (λ e. executed-extends s good role (judged-role c judge) (executed-passed s c e permit) (executed-test c (isClear role) e other))
+    where
+      role : Role
+      role = roleOf (c .kind)
 
   -- So the written-out list of every closed macro is as it was.
   pub applied-lists : clearsAll c ≡ false → (m : ℕ) → isClosed s m ≡ true → writtenOut (appliedOf s c) m ≡ writtenOut s m
@@ -169,7 +178,7 @@ module _ (s : Store) (good : Good s) (c : Command) (judge : judgeCode c ≡ 0) (
   stays-on : (s .running ≡ 255 → ⊥) → stopsRun c ≡ false → (appliedOf s c .running ≡ s .running) × (appliedOf s c .left ≡ s .left)
   stays-on busy other =
       by-flag (λ t. (t .running ≡ s .running) × (t .left ≡ s .left)) s c
-      (λ e. let a = appends s good c e judge permit in rw (a .effect) (kept-run s (s .opened) c))
+      (λ e. let a = appends s good c e judge permit in rw (a .effect) (kept-run s c))
       (λ e. executed-run s role (busy-passed s role (executed-passed s c e permit) busy .0) (executed-test c (isStop role) e other))
     where
       role : Role
@@ -209,30 +218,42 @@ module _ (s : Store) (good : Good s) (c : Command) (judge : judgeCode c ≡ 0) (
   pub applied-idle : startsRun c ≡ false → s .running ≡ 255 → appliedOf s c .running ≡ 255
   applied-idle other free =
       by-flag (λ t. t .running ≡ 255) s c
-      (λ e. let a = appends s good c e judge permit in rw (a .effect) (kept-run s (s .opened) c .0 ∙ free))
+      (λ e. let a = appends s good c e judge permit in rw (a .effect) (kept-run s c .0 ∙ free))
       (λ e. executed-idle s (roleOf (c .kind)) (executed-test c (isRun (roleOf (c .kind))) e other) free)
 
--- An entry more in macro m, which is not closed and has a slot for it: its list is the one before, followed by the entry's part.
-pub kept-written : (s : Store) → Good s → (m : ℕ) (c : Command) → m < 8 → countOf s m < 24 → isClosed s m ≡ false
-    → writtenOut (kept s m c) m ≡ writtenOut s m ++ partOf s m c
+-- An entry more in the open macro: its list is the one before, followed by the part of the entry as it is stored.
+pub kept-written : (s : Store) → Good s → (c : Command) → s .opened < 8 → usedIn s < 192
+    → writtenOut (kept s c) (s .opened) ≡ writtenOut s (s .opened) ++ partOf s (s .opened) (storedAs c)
 unfolding kept
-kept-written s good m c small room u =
-    written-last t m (entriesOf s m) c (kept-own s m c (good .shaped) small room)
-    ∙ ap (λ f. partsOf f (entriesOf s m) ++ partAs f (c .kind) (roleOf (c .kind))) same
-    ∙ ap (λ l. l ++ partOf s m c) (sym (written-is s m))
+kept-written s good c small room = grown (storedAs c) (kept-own s c (good .shaped .pool) (good .shaped .counts) small room)
   where
+    m : ℕ
+    m = s .opened
+
     t : Store
-    t = kept s m c
+    t = kept s c
 
     same : look t m ≡ look s m
-    same = sym (look-frame s t refl (λ k h. sym (kept-extends s m c room u .entries k h)) m)
+    same = sym (look-frame s t refl (λ k h. sym (kept-extends s (good .shaped) c small room (good .marks .unclosed) .entries k h)) m)
+
+    grown : (e : Command) → entriesOf t m ≡ entriesOf s m ++ (e ∷ []) → writtenOut t m ≡ writtenOut s m ++ partOf s m e
+    grown e own =
+        written-last t m (entriesOf s m) e own
+        ∙ ap (λ f. partsOf f (entriesOf s m) ++ partAs f (e .kind) (roleOf (e .kind))) same
+        ∙ ap (λ l. l ++ partOf s m e) (sym (written-is s m))
 
 -- So an accepted append leaves the open macro with its list followed by the new entry's part.
 pub applied-appends : (s : Store) → Good s → (c : Command) → c .flag ≡ true → judgeCode c ≡ 0 → permitCode s c ≡ 0
-    → writtenOut (appliedOf s c) (s .opened) ≡ writtenOut s (s .opened) ++ partOf s (s .opened) c
+    → writtenOut (appliedOf s c) (s .opened) ≡ writtenOut s (s .opened) ++ partOf s (s .opened) (storedAs c)
 applied-appends s good c flag judge permit =
     let a = appends s good c flag judge permit in
-    ap (λ t. writtenOut t (s .opened)) (a .effect) ∙ kept-written s good (s .opened) c (a .small) (a .room) (good .marks .unclosed)
+    ap (λ t. writtenOut t (s .opened)) (a .effect) ∙ kept-written s good c (a .small) (a .room)
+
+-- Every command that a program can hold is stored as it is.
+pub held-appends : (s : Store) → Good s → (c : Command) → Held c → c .flag ≡ true → judgeCode c ≡ 0 → permitCode s c ≡ 0
+    → writtenOut (appliedOf s c) (s .opened) ≡ writtenOut s (s .opened) ++ partOf s (s .opened) c
+held-appends s good c held flag judge permit =
+    applied-appends s good c flag judge permit ∙ ap (λ e. writtenOut s (s .opened) ++ partOf s (s .opened) e) (stored-same c judge held)
 
 -- A second of a run with k + 1 of L seconds left hands over entry L - (k + 1), from 0, and leaves k; after the last one the store is idle.
 pub record Second (s : Store) (k : ℕ) : Type 0 where

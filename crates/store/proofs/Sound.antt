@@ -1,12 +1,11 @@
 -- A sound store as plain facts, and that every accepted command and every second keep it sound.
-use Prim.Native.Nat.{ℕ, zero, suc, _+_, _*_, _-_, _≤_, _<_, min}
+use Prim.Native.Nat.{ℕ, zero, suc, _+_, _-_, _≤_, _<_}
 use mathlib.Core.Path.{_≡_, refl, sym, ap, _∙_, subst}
 use mathlib.Core.List.{List, [], _∷_, _++_}
 use mathlib.Core.Bool.{Bool, true, false, cond, not, _&&_, true≢false}
 use native.Mathlib.Omega.{arith}
-use lib.ListN.{length, getD, take, drop, set, replicate, length-append}
-use lib.ListN.{length-take, length-drop, length-set, length-replicate, List·getD-eq-default, getD-replicate}
-use lib.Seq.{getD-set-same, getD-set-other, drop-set-lt, drop-set-add, take-set-le, take-suc-set}
+use lib.ListN.{length, getD, set, replicate, length-append, length-set, length-replicate, List·getD-eq-default, getD-replicate}
+use lib.Seq.{getD-set-same, getD-set-other}
 use lib.Dec.{T, leb, ltb, eqb}
 use borrow.Author.Tests.{ltb-true, ltb-false, leb-true, leb-false, eqb-true, eqb-false, not-true, not-false, lt-ltb, le-leb, lt-leb, eq-eqb, ne-eqb}
 use Rattle.words.proofs.Tests.{both}
@@ -17,12 +16,15 @@ use Rattle.wire.specs.Judge.{judgeCode}
 use Rattle.store.specs.declared.Store.{Store}
 use Rattle.store.specs.declared.roles.Role.{Role}
 use Rattle.store.specs.Roles.{roleOf}
-use Rattle.store.specs.Slots.{emptySlot, countOf, isClosed, entriesOf, kept}
+use Rattle.store.specs.Pool.{countOf, isClosed, usedIn, entriesOf, kept}
 use Rattle.store.specs.WrittenOut.{writtenOut}
 use Rattle.store.specs.Checks.{row11, row12, row13, row14, row15, row16, row17, row18, row19, permitCode, storeChecks}
-use Rattle.store.specs.Effects.{storeWith, freshSlots, freshStore, appendedOf, openedOf, closedOf, startedOf}
+use Rattle.store.specs.Effects.{storeWith, freshStore, appendedOf, openedOf, closedOf, startedOf}
 use Rattle.store.specs.Effects.{stoppedOf, clearedOf, executedAs, appliedOf, countedDown, afterSecond}
-use Rattle.store.specs.Sound.{allBelow, allOf, entryHolds, entriesHold, closedHolds, openHolds, macroHolds, runningHolds, storeSound}
+use Rattle.store.specs.Sound.{allBelow, allOf, entryHolds, entriesHold, closedHolds, macroHolds, runningHolds, poolHolds, storeSound}
+use Rattle.store.proofs.Entries.{storedAs, stored-flag, stored-role, stored-judge}
+use Rattle.store.proofs.Kept.{kept-own, kept-other, kept-used, kept-length, opened-entries, opened-used, closed-entries, closed-used}
+use Rattle.store.proofs.Kept.{fresh-used, size-open, entries-length, entries-none}
 use Rattle.store.proofs.Flat.{Each, TargetIn, RunsIn, written-grown}
 use Rattle.store.proofs.Parts.{partOf, writtenAs, part-run, part-wait, part-other}
 use Rattle.store.proofs.WrittenOut.{written-is, written-first}
@@ -43,17 +45,11 @@ pub record SoundEntry (s : Store) (m : ℕ) (e : Command) : Type 0 where
   pub allowed : judgeCode e ≡ 0
   pub target : TargetBelow s m (roleOf (e .kind))
 
--- "each closed one has 1 to 24 and a length of 1 to 600"
+-- "each closed one has 1 [entry at least] and a length of 1 to 600"
 pub record SoundClosed (s : Store) (m : ℕ) : Type 0 where
   pub some : 1 ≤ countOf s m
-  pub fits : countOf s m ≤ 24
   pub lasts : 1 ≤ length (writtenOut s m)
   pub ends : length (writtenOut s m) ≤ 600
-  pub entries : Each (SoundEntry s m) (entriesOf s m)
-
--- "the open macro has at most 24 entries"
-pub record SoundOpen (s : Store) (m : ℕ) : Type 0 where
-  pub fits : countOf s m ≤ 24
   pub entries : Each (SoundEntry s m) (entriesOf s m)
 
 -- "a running macro is closed with 1 to its length seconds left"
@@ -62,10 +58,11 @@ pub record SoundRunning (s : Store) : Type 0 where
   pub least : 1 ≤ s .left
   pub most : s .left ≤ length (writtenOut s (s .running))
 
--- The store's part of a sound state. A macro that is neither closed nor open is not judged.
+-- The store's part of a sound state: all macros together have at most 192 entries. A macro that is neither closed nor open is not judged.
 pub record Sound (s : Store) : Type 0 where
+  pub fits : usedIn s ≤ 192
   pub closed : (m : ℕ) → m < 8 → isClosed s m ≡ true → SoundClosed s m
-  pub opened : s .opened < 8 → isClosed s (s .opened) ≡ false → SoundOpen s (s .opened)
+  pub opened : s .opened < 8 → isClosed s (s .opened) ≡ false → Each (SoundEntry s (s .opened)) (entriesOf s (s .opened))
   pub running : (s .running ≡ 255 → ⊥) → SoundRunning s
 
 -- Two tests, both of which hold or do not.
@@ -157,31 +154,21 @@ pub closed-of : (s : Store) (m : ℕ) → closedHolds s m ≡ true → SoundClos
 closed-of s m h =
     let n = countOf s m in
     let l = length (writtenOut s m) in
-    let h5 = both (leb 1 n && leb n 24 && leb 1 l && leb l 600) (entriesHold s m) h in
-    let h4 = both (leb 1 n && leb n 24 && leb 1 l) (leb l 600) (h5 .0) in
-    let h3 = both (leb 1 n && leb n 24) (leb 1 l) (h4 .0) in
-    let h2 = both (leb 1 n) (leb n 24) (h3 .0) in
+    let h4 = both (leb 1 n && leb 1 l && leb l 600) (entriesHold s m) h in
+    let h3 = both (leb 1 n && leb 1 l) (leb l 600) (h4 .0) in
+    let h2 = both (leb 1 n) (leb 1 l) (h3 .0) in
     record {
       some = leb-true 1 n (h2 .0);
-      fits = leb-true n 24 (h2 .1);
-      lasts = leb-true 1 l (h3 .1);
-      ends = leb-true l 600 (h4 .1);
-      entries = entries-of s m (h5 .1);
+      lasts = leb-true 1 l (h2 .1);
+      ends = leb-true l 600 (h3 .1);
+      entries = entries-of s m (h4 .1);
     }
 
 of-closed : (s : Store) (m : ℕ) → SoundClosed s m → closedHolds s m ≡ true
 of-closed s m h =
     let n = countOf s m in
     let l = length (writtenOut s m) in
-    rw (le-leb 1 n (h .some), le-leb n 24 (h .fits), le-leb 1 l (h .lasts), le-leb l 600 (h .ends)) (of-entries s m (h .entries))
-
-open-of : (s : Store) (m : ℕ) → openHolds s m ≡ true → SoundOpen s m
-open-of s m h =
-    let p = both (leb (countOf s m) 24) (entriesHold s m) h in
-    record { fits = leb-true (countOf s m) 24 (p .0); entries = entries-of s m (p .1) }
-
-of-open : (s : Store) (m : ℕ) → SoundOpen s m → openHolds s m ≡ true
-of-open s m h = rw (le-leb (countOf s m) 24 (h .fits)) (of-entries s m (h .entries))
+    rw (le-leb 1 n (h .some), le-leb 1 l (h .lasts), le-leb l 600 (h .ends)) (of-entries s m (h .entries))
 
 running-of : (s : Store) → runningHolds s ≡ true → (s .running ≡ 255 → ⊥) → SoundRunning s
 running-of s h busy =
@@ -210,28 +197,32 @@ macro-of s h m small = go (isClosed s m) refl (eqb (s .opened) m) refl
     go false c false e = rw (c, e)
     go false c true e =
         let same : s .opened ≡ m = eqb-true (s .opened) m e in
-        rw (c, e) (of-open s m (subst (λ k. SoundOpen s k) same (h .opened (rw same small) (rw same c))))
+        rw (c, e) (of-entries s m (subst (λ k. Each (SoundEntry s k) (entriesOf s k)) same (h .opened (rw same small) (rw same c))))
 
 -- The test and the record say the same.
 pub sound-of : (s : Store) → storeSound s ≡ true → Sound s
 unfolding storeSound
 sound-of s h =
-    let p = both (allBelow 8 (macroHolds s)) (runningHolds s) h in
-    let macros : (m : ℕ) → m < 8 → macroHolds s m ≡ true = below-of 8 (macroHolds s) (p .0) in
+    let p = both (poolHolds s && allBelow 8 (macroHolds s)) (runningHolds s) h in
+    let q = both (poolHolds s) (allBelow 8 (macroHolds s)) (p .0) in
+    let macros : (m : ℕ) → m < 8 → macroHolds s m ≡ true = below-of 8 (macroHolds s) (q .1) in
     record {
+      fits = leb-true (usedIn s) 192 (q .0);
       closed = λ m small c. closed-of s m (rw c at (macros m small));
-      opened = λ small c. open-of s (s .opened) (rw (c, eq-eqb (s .opened) (s .opened) refl) at (macros (s .opened) small));
+      opened = λ small c. entries-of s (s .opened) (rw (c, eq-eqb (s .opened) (s .opened) refl) at (macros (s .opened) small));
       running = running-of s (p .1);
     }
 
 pub of-sound : (s : Store) → Sound s → storeSound s ≡ true
 unfolding storeSound
 of-sound s h =
-    and-true (allBelow 8 (macroHolds s)) (runningHolds s) (of-below 8 (macroHolds s) (macro-of s h)) (of-running s (h .running))
+    and-true (poolHolds s && allBelow 8 (macroHolds s)) (runningHolds s)
+    (and-true (poolHolds s) (allBelow 8 (macroHolds s)) (le-leb (usedIn s) 192 (h .fits)) (of-below 8 (macroHolds s) (macro-of s h)))
+    (of-running s (h .running))
 
--- What every store has by its type: 192 slots, eight counts and eight marks.
+-- What every store has by its type: a pool of three words to each of 192 entries, eight counts and eight marks.
 pub record Shaped (s : Store) : Type 0 where
-  pub slots : length (s .entries) ≡ 192
+  pub pool : length (s .pool) ≡ 576
   pub counts : length (s .counts) ≡ 8
   pub marks : length (s .closed) ≡ 8
 
@@ -264,51 +255,6 @@ mark-small marks m eight c = go (ltb m 8) refl
 
 pub closed-small : (s : Store) → Shaped s → (m : ℕ) → isClosed s m ≡ true → m < 8
 closed-small s shape m c = mark-small (s .closed) m (shape .marks) c
-
--- A window of a list does not see what is set outside of it.
-module _ (l : List Command) (c : Command) (i from n : ℕ) where
-  window-after : i < from → take n (drop from (set l i c)) ≡ take n (drop from l)
-  window-after h = rw (drop-set-lt from l i c h)
-
-  window-before : from + n ≤ i → take n (drop from (set l i c)) ≡ take n (drop from l)
-  window-before h =
-      let at : i ≡ from + (i - from) = omega arith in
-      ap (λ j. take n (drop from (set l j c))) at
-      ∙ ap (take n) (drop-set-add from l (i - from) c)
-      ∙ take-set-le n (drop from l) (i - from) c (omega arith)
-
--- An entry more in macro m leaves the entries of the others.
-pub kept-other : (s : Store) (m k : ℕ) (c : Command) → countOf s m < 24 → (k ≡ m → ⊥) → entriesOf (kept s m c) k ≡ entriesOf s k
-unfolding entriesOf kept
-kept-other s m k c room other =
-    rw (getD-set-other (s .counts) m k (countOf s m + 1) 0 other) (go (ltb k m) refl)
-  where
-    go : (b : Bool) → ltb k m ≡ b
-        → take (min 24 (countOf s k)) (drop (k * 24) (set (s .entries) (m * 24 + countOf s m) c))
-        ≡ take (min 24 (countOf s k)) (drop (k * 24) (s .entries))
-    go true e =
-        window-before (s .entries) c (m * 24 + countOf s m) (k * 24) (min 24 (countOf s k)) (let less : k < m = ltb-true k m e in omega arith)
-    go false e =
-        window-after (s .entries) c (m * 24 + countOf s m) (k * 24) (min 24 (countOf s k)) (let less : m ≤ k = ltb-false k m e in omega arith)
-
--- It stands behind the entries that macro m had.
-pub kept-own : (s : Store) (m : ℕ) (c : Command) → Shaped s → m < 8 → countOf s m < 24 → entriesOf (kept s m c) m ≡ entriesOf s m ++ (c ∷ [])
-unfolding entriesOf kept
-kept-own s m c shape small room =
-    let n = countOf s m in
-    let part = drop (m * 24) (s .entries) in
-    let more : min 24 (n + 1) ≡ suc n = omega arith in
-    let all : min 24 n ≡ n = omega arith in
-    let long : n < length part = omega (arith, length-drop (m * 24) (s .entries), shape .slots) in
-    rw (getD-set-same (s .counts) m (n + 1) 0 (omega (arith, shape .counts)), more, all, drop-set-add (m * 24) (s .entries) n c)
-    (take-suc-set part n c long)
-
--- A macro has as many entries as its count says, up to 24.
-pub entries-length : (s : Store) (m : ℕ) → Shaped s → m < 8 → length (entriesOf s m) ≡ min 24 (countOf s m)
-unfolding entriesOf
-entries-length s m shape small =
-    length-take (min 24 (countOf s m)) (drop (m * 24) (s .entries))
-    ∙ omega (arith, length-drop (m * 24) (s .entries), shape .slots)
 
 -- Store t has the closed macros of s, closed and with the same entries.
 pub record Extends (s t : Store) : Type 0 where
@@ -371,16 +317,14 @@ module _ (s t : Store) (good : Good s) (ext : Extends s t) where
       let h = good .sound .closed m (closed-small s (good .shaped) m c) c in
       record {
         some = rw (ext .counts m c) (h .some);
-        fits = rw (ext .counts m c) (h .fits);
         lasts = rw (lists-stay m c) (h .lasts);
         ends = rw (lists-stay m c) (h .ends);
         entries = rw (ext .entries m c) (entries-stay m (entriesOf s m) (h .entries));
       }
 
   -- about the open macro where its entries are kept,
-  open-stays : (m : ℕ) → countOf t m ≡ countOf s m → entriesOf t m ≡ entriesOf s m → SoundOpen s m → SoundOpen t m
-  open-stays m count entries h =
-      record { fits = rw count (h .fits); entries = rw entries (entries-stay m (entriesOf s m) (h .entries)) }
+  open-stays : (m : ℕ) → entriesOf t m ≡ entriesOf s m → Each (SoundEntry s m) (entriesOf s m) → Each (SoundEntry t m) (entriesOf t m)
+  open-stays m same h = rw same (entries-stay m (entriesOf s m) h)
 
   -- and about the running one.
   running-stays : t .running ≡ s .running → t .left ≡ s .left → SoundRunning s → SoundRunning t
@@ -411,7 +355,7 @@ none-due (c ∷ cs) coded h = go (c .due) refl (none-due cs (coded .1))
     go true e rest = absurd (rw (eq-eqb (c .code) 0 (rw e at h)) at (coded .0))
     go false e rest = (e, rest (rw e at h))
 
--- The number that stands for none, by the test of row 19.
+-- The number that stands for none, by the test of rows 12 and 19.
 pub none-runs : (n : ℕ) → not (eqb n 255) ≡ false → n ≡ 255
 none-runs n h = eqb-true n 255 (not-false (eqb n 255) h)
 
@@ -422,7 +366,7 @@ pub record Passed (s : Store) (flag : Bool) (role : Role) : Type 0 where
   pub no13 : row13 role (s .closed) ≡ false
   pub no14 : row14 role (countOf s (s .opened)) ≡ false
   pub no15 : row15 role (length (writtenOut s (s .opened))) ≡ false
-  pub no16 : row16 flag (countOf s (s .opened)) ≡ false
+  pub no16 : row16 flag (usedIn s) ≡ false
   pub no17 : row17 flag role (s .opened) ≡ false
   pub no18 : row18 role (s .closed) ≡ false
   pub no19 : row19 flag role (s .running) ≡ false
@@ -483,7 +427,7 @@ judged-kind flag Kind.Clear h = tt
 pub judged-role : (c : Command) → judgeCode c ≡ 0 → InRange (roleOf (c .kind))
 judged-role c h = judged-kind (c .flag) (c .kind) h
 
--- Every sound entry lasts at least a second, and so does a macro with entries.
+-- Every sound entry lasts at least a second, and so does the open macro where it has entries.
 part-lasts : (s : Store) → Good s → (m : ℕ) (e : Command) (r : Role) → roleOf (e .kind) ≡ r → InRange r → TargetBelow s m r
     → 1 ≤ length (partOf s m e)
 part-lasts s good m e Role.Plain role range target = rw (part-other s m e Role.Plain role tt) (omega arith)
@@ -501,19 +445,22 @@ entries-last s good m (e ∷ es) h some =
     let first = part-lasts s good m e (roleOf (e .kind)) refl (judged-role e (h .0 .allowed)) (h .0 .target) in
     omega (arith, ap length (written-first s m e es), length-append (partOf s m e) (writtenAs s m es))
 
-pub macro-lasts : (s : Store) → Good s → (m : ℕ) → m < 8 → 1 ≤ countOf s m → Each (SoundEntry s m) (entriesOf s m)
-    → 1 ≤ length (writtenOut s m)
-macro-lasts s good m small some entries =
-    rw (written-is s m) (entries-last s good m (entriesOf s m) entries (omega (arith, entries-length s m (good .shaped) small)))
+macro-lasts : (s : Store) → Good s → s .opened < 8 → 1 ≤ countOf s (s .opened) → Each (SoundEntry s (s .opened)) (entriesOf s (s .opened))
+    → 1 ≤ length (writtenOut s (s .opened))
+macro-lasts s good small some entries =
+    let m = s .opened in
+    let long = entries-length s m (good .shaped .pool) (good .sound .fits) small in
+    rw (written-is s m) (entries-last s good m (entriesOf s m) entries (omega (arith, long, size-open s)))
 
 -- No macro open, closed or running: a fresh store, and one just cleared.
-good-empty : (slots : List Command) (running left : ℕ) → length slots ≡ 192 → running ≡ 255 → left ≡ 0
-    → Good (storeWith slots (replicate 8 0) (replicate 8 false) 255 running left)
-good-empty slots running left long idle none =
+good-empty : (pool : List ℕ) (running left : ℕ) → length pool ≡ 576 → running ≡ 255 → left ≡ 0
+    → Good (storeWith pool (replicate 8 0) (replicate 8 false) 255 running left)
+good-empty pool running left long idle none =
     record {
-      shaped = record { slots = long; counts = refl; marks = refl };
+      shaped = record { pool = long; counts = refl; marks = refl };
       sound =
           record {
+            fits = rw fresh-used (omega arith);
             closed = λ m small c. absurd (true≢false (sym c ∙ getD-replicate 8 m false false small));
             opened = λ small c. absurd (omega arith);
             running = λ busy. absurd (busy idle);
@@ -531,11 +478,11 @@ good-empty slots running left long idle none =
 
 -- 01: "Fresh: .. no macro open, closed or running" is sound.
 pub fresh-good : Good freshStore
-fresh-good = good-empty freshSlots 255 0 (length-replicate 192 emptySlot) refl refl
+fresh-good = good-empty (replicate 576 0) 255 0 (length-replicate {A = ℕ} 576 0) refl refl
 
 -- The store with another macro running, or none, and other seconds left: all that is to be shown is about these two.
 abbrev pub runningAs : Store → ℕ → ℕ → Store
-runningAs s running left = storeWith (s .entries) (s .counts) (s .closed) (s .opened) running left
+runningAs s running left = storeWith (s .pool) (s .counts) (s .closed) (s .opened) running left
 
 pub runs-extends : (s : Store) (running left : ℕ) → Extends s (runningAs s running left)
 unfolding entriesOf
@@ -547,11 +494,12 @@ good-running : (s : Store) → Good s → (running left : ℕ) → ((running ≡
 unfolding entriesOf
 good-running s good running left closed range none =
     record {
-      shaped = record { slots = good .shaped .slots; counts = good .shaped .counts; marks = good .shaped .marks };
+      shaped = record { pool = good .shaped .pool; counts = good .shaped .counts; marks = good .shaped .marks };
       sound =
           record {
+            fits = good .sound .fits;
             closed = λ m small c. closed-stays s t good ext m c;
-            opened = λ small c. open-stays s t good ext (s .opened) refl refl (good .sound .opened small c);
+            opened = λ small c. open-stays s t good ext (s .opened) refl (good .sound .opened small c);
             running = λ busy.
                 record {
                   closed = closed busy;
@@ -614,13 +562,13 @@ second-keeps s good = go (eqb (s .running) 255) refl
 
 -- CLEAR while nothing runs.
 pub cleared-keeps : (s : Store) → Good s → s .running ≡ 255 → Good (clearedOf s)
-cleared-keeps s good free = good-empty (s .entries) (s .running) (s .left) (good .shaped .slots) free (good .marks .idle free)
+cleared-keeps s good free = good-empty (s .pool) (s .running) (s .left) (good .shaped .pool) free (good .marks .idle free)
 
 -- Other macros, and another one open, while the run stays.
-marks-with : (s : Store) → Good s → (entries : List Command) (counts : List ℕ) (closed : List Bool) (opened : ℕ)
+marks-with : (s : Store) → Good s → (pool counts : List ℕ) (closed : List Bool) (opened : ℕ)
     → ((opened ≡ 255 → ⊥) → opened < 8) → getD closed opened false ≡ false
-    → Marks (storeWith entries counts closed opened (s .running) (s .left))
-marks-with s good entries counts closed opened small unclosed =
+    → Marks (storeWith pool counts closed opened (s .running) (s .left))
+marks-with s good pool counts closed opened small unclosed =
     record {
       opened = small;
       running = good .marks .running;
@@ -635,39 +583,42 @@ differs : (s : Store) (k m : ℕ) → isClosed s k ≡ true → isClosed s m ≡
 differs s k m c u e = true≢false (sym c ∙ ap (isClosed s) e ∙ u)
 
 -- OPEN of a macro that is not closed, while none is open.
-pub opened-extends : (s : Store) (m : ℕ) → isClosed s m ≡ false → Extends s (openedOf s m)
-unfolding entriesOf
-opened-extends s m u =
+pub opened-extends : (s : Store) → Shaped s → (m : ℕ) → m < 8 → s .opened ≡ 255 → isClosed s m ≡ false → Extends s (openedOf s m)
+opened-extends s shape m small free u =
     record {
       marks = λ k c. c;
       counts = λ k c. getD-set-other (s .counts) m k 0 0 (differs s k m c u);
-      entries = λ k c. ap (λ n. take (min 24 n) (drop (k * 24) (s .entries))) (getD-set-other (s .counts) m k 0 0 (differs s k m c u));
+      entries = λ k c. opened-entries s m (shape .counts) (omega arith) small u k (closed-small s shape k c);
     }
 
-pub opened-keeps : (s : Store) → Good s → (m : ℕ) → m < 8 → isClosed s m ≡ false → Good (openedOf s m)
-unfolding entriesOf
-opened-keeps s good m small u =
+pub opened-keeps : (s : Store) → Good s → (m : ℕ) → m < 8 → s .opened ≡ 255 → isClosed s m ≡ false → Good (openedOf s m)
+opened-keeps s good m small free u =
     record {
-      shaped = record { slots = good .shaped .slots; counts = length-set (s .counts) m 0 ∙ good .shaped .counts; marks = good .shaped .marks };
+      shaped = record { pool = good .shaped .pool; counts = length-set (s .counts) m 0 ∙ good .shaped .counts; marks = good .shaped .marks };
       sound =
           record {
+            fits = rw (opened-used s m (good .shaped .counts) (omega arith) small u) (good .sound .fits);
             closed = λ k less c. closed-stays s (openedOf s m) good ext k c;
-            opened = λ less c. record { fits = rw none (omega arith); entries = rw none tt };
+            opened = λ less c. rw none tt;
             running = λ busy. running-stays s (openedOf s m) good ext refl refl (good .sound .running busy);
           };
-      marks = marks-with s good (s .entries) (set (s .counts) m 0) (s .closed) m (λ some. small) u;
+      marks = marks-with s good (s .pool) (set (s .counts) m 0) (s .closed) m (λ some. small) u;
     }
   where
     ext : Extends s (openedOf s m)
-    ext = opened-extends s m u
+    ext = opened-extends s (good .shaped) m small free u
 
-    none : countOf (openedOf s m) m ≡ 0
-    none = getD-set-same (s .counts) m 0 0 (omega (arith, good .shaped .counts))
+    none : entriesOf (openedOf s m) m ≡ []
+    none = entries-none (openedOf s m) m (getD-set-same (s .counts) m 0 0 (omega (arith, good .shaped .counts)))
 
 -- CLOSE of the open macro, which has entries and is not too long.
 pub closed-extends : (s : Store) → Shaped s → Extends s (closedOf s)
-unfolding entriesOf
-closed-extends s shape = record { marks = λ k c. go k c (eqb k (s .opened)) refl; counts = λ k c. refl; entries = λ k c. refl }
+closed-extends s shape =
+    record {
+      marks = λ k c. go k c (eqb k (s .opened)) refl;
+      counts = λ k c. refl;
+      entries = λ k c. closed-entries s (shape .marks) k (closed-small s shape k c);
+    }
   where
     go : (k : ℕ) → isClosed s k ≡ true → (b : Bool) → eqb k (s .opened) ≡ b → isClosed (closedOf s) k ≡ true
     go k c true e =
@@ -677,18 +628,18 @@ closed-extends s shape = record { marks = λ k c. go k c (eqb k (s .opened)) ref
     go k c false e = getD-set-other (s .closed) (s .opened) k true false (eqb-false k (s .opened) e) ∙ c
 
 pub closed-keeps : (s : Store) → Good s → s .opened < 8 → 1 ≤ countOf s (s .opened) → length (writtenOut s (s .opened)) ≤ 600 → Good (closedOf s)
-unfolding entriesOf
 closed-keeps s good small some short =
     record {
-      shaped = record { slots = good .shaped .slots; counts = good .shaped .counts; marks = length-set (s .closed) m true ∙ good .shaped .marks };
+      shaped = record { pool = good .shaped .pool; counts = good .shaped .counts; marks = length-set (s .closed) m true ∙ good .shaped .marks };
       sound =
           record {
+            fits = rw (closed-used s (good .shaped .marks)) (good .sound .fits);
             closed = λ k less c. go k c (eqb k m) refl;
             opened = λ less c. absurd (omega arith);
             running = λ busy. running-stays s t good ext refl refl (good .sound .running busy);
           };
       marks =
-          marks-with s good (s .entries) (s .counts) (set (s .closed) m true) 255
+          marks-with s good (s .pool) (s .counts) (set (s .closed) m true) 255
           (λ some. absurd (some refl))
           (List·getD-eq-default (set (s .closed) m true) false (omega (arith, length-set (s .closed) m true, good .shaped .marks)));
     }
@@ -702,20 +653,22 @@ closed-keeps s good small some short =
     ext : Extends s t
     ext = closed-extends s (good .shaped)
 
-    judged : SoundOpen s m
+    judged : Each (SoundEntry s m) (entriesOf s m)
     judged = good .sound .opened small (good .marks .unclosed)
 
+    stay : entriesOf t m ≡ entriesOf s m
+    stay = closed-entries s (good .shaped .marks) m small
+
     same : writtenOut t m ≡ writtenOut s m
-    same = list-stays s t good ext m refl (judged .entries)
+    same = list-stays s t good ext m stay judged
 
     own : SoundClosed t m
     own =
         record {
           some = some;
-          fits = judged .fits;
-          lasts = rw same (macro-lasts s good m small some (judged .entries));
+          lasts = rw same (macro-lasts s good small some judged);
           ends = rw same short;
-          entries = entries-stay s t good ext m (entriesOf s m) (judged .entries);
+          entries = open-stays s t good ext m stay judged;
         }
 
     go : (k : ℕ) → isClosed t k ≡ true → (b : Bool) → eqb k m ≡ b → SoundClosed t k
@@ -724,63 +677,66 @@ closed-keeps s good small some short =
         closed-stays s t good ext k (sym (getD-set-other (s .closed) m k true false (eqb-false k m e)) ∙ c)
 
 -- An entry more in the open macro.
-pub kept-extends : (s : Store) (m : ℕ) (c : Command) → countOf s m < 24 → isClosed s m ≡ false → Extends s (kept s m c)
+pub kept-extends : (s : Store) → Shaped s → (c : Command) → s .opened < 8 → usedIn s < 192 → isClosed s (s .opened) ≡ false → Extends s (kept s c)
 unfolding kept
-kept-extends s m c room u =
+kept-extends s shape c small room u =
     record {
       marks = λ k h. h;
-      counts = λ k h. getD-set-other (s .counts) m k (countOf s m + 1) 0 (differs s k m h u);
-      entries = λ k h. kept-other s m k c room (differs s k m h u);
+      counts = λ k h. getD-set-other (s .counts) (s .opened) k (countOf s (s .opened) + 1) 0 (differs s k (s .opened) h u);
+      entries = λ k h. kept-other s c (shape .pool) (shape .counts) small room k (closed-small s shape k h) (differs s k (s .opened) h u);
     }
 
 each-last : (P : Command → Type 0) (es : List Command) (e : Command) → Each P es → P e → Each P (es ++ (e ∷ []))
 each-last P [] e h p = (p, tt)
 each-last P (x ∷ es) e h p = (h .0, each-last P es e (h .1) p)
 
-kept-keeps : (s : Store) → Good s → (c : Command) → s .opened < 8 → countOf s (s .opened) < 24 → SoundEntry s (s .opened) c
-    → Good (kept s (s .opened) c)
+-- What the pool's words say of a sound entry is sound.
+stored-entry : (s : Store) (m : ℕ) (c : Command) → SoundEntry s m c → SoundEntry s m (storedAs c)
+stored-entry s m c h =
+    record {
+      flagged = stored-flag c (h .allowed) ∙ h .flagged;
+      allowed = stored-judge c (h .allowed);
+      target = subst (TargetBelow s m) (sym (stored-role c (h .allowed))) (h .target);
+    }
+
+kept-keeps : (s : Store) → Good s → (c : Command) → s .opened < 8 → usedIn s < 192 → SoundEntry s (s .opened) c → Good (kept s c)
 unfolding kept
 kept-keeps s good c small room entry =
     record {
       shaped =
           record {
-            slots = length-set (s .entries) (m * 24 + countOf s m) c ∙ good .shaped .slots;
+            pool = kept-length s c (good .shaped .pool) small room;
             counts = length-set (s .counts) m (countOf s m + 1) ∙ good .shaped .counts;
             marks = good .shaped .marks;
           };
       sound =
           record {
+            fits = rw (kept-used s c (good .shaped .counts) small) (omega arith);
             closed = λ k less h. closed-stays s t good ext k h;
             opened = λ less h.
-                record {
-                  fits = rw count (omega arith);
-                  entries = rw (kept-own s m c (good .shaped) small room)
-                      (entries-stay s t good ext m (entriesOf s m ++ (c ∷ []))
-                      (each-last (SoundEntry s m) (entriesOf s m) c (good .sound .opened small (good .marks .unclosed) .entries) entry));
-                };
+                rw (kept-own s c (good .shaped .pool) (good .shaped .counts) small room)
+                (entries-stay s t good ext m (entriesOf s m ++ (storedAs c ∷ []))
+                (each-last (SoundEntry s m) (entriesOf s m) (storedAs c) (good .sound .opened small (good .marks .unclosed))
+                (stored-entry s m c entry)));
             running = λ busy. running-stays s t good ext refl refl (good .sound .running busy);
           };
-      marks = marks-with s good (t .entries) (t .counts) (s .closed) m (good .marks .opened) (good .marks .unclosed);
+      marks = marks-with s good (t .pool) (t .counts) (s .closed) m (good .marks .opened) (good .marks .unclosed);
     }
   where
     m : ℕ
     m = s .opened
 
     t : Store
-    t = kept s m c
+    t = kept s c
 
     ext : Extends s t
-    ext = kept-extends s m c room (good .marks .unclosed)
+    ext = kept-extends s (good .shaped) c small room (good .marks .unclosed)
 
-    count : countOf t m ≡ countOf s m + 1
-    count = getD-set-same (s .counts) m (countOf s m + 1) 0 (omega (arith, good .shaped .counts))
+-- "A flag-1 command is only stored, as the open macro's next entry", where one is free.
+pub appended-is : (s : Store) (c : Command) → s .opened < 8 → usedIn s < 192 → appendedOf s c ≡ kept s c
+appended-is s c small room = rw (lt-ltb (s .opened) 8 small, lt-ltb (usedIn s) 192 room)
 
--- "A flag-1 command is only stored, as the open macro's next entry", where there is a slot for it.
-pub appended-is : (s : Store) (c : Command) → s .opened < 8 → countOf s (s .opened) < 24 → appendedOf s c ≡ kept s (s .opened) c
-appended-is s c small room = rw (lt-ltb (s .opened) 8 small, lt-leb 24 (countOf s (s .opened)) room)
-
-pub appended-keeps : (s : Store) → Good s → (c : Command) → s .opened < 8 → countOf s (s .opened) < 24 → SoundEntry s (s .opened) c
-    → Good (appendedOf s c)
+pub appended-keeps : (s : Store) → Good s → (c : Command) → s .opened < 8 → usedIn s < 192 → SoundEntry s (s .opened) c → Good (appendedOf s c)
 appended-keeps s good c small room entry = rw (appended-is s c small room) (kept-keeps s good c small room entry)
 
 -- A command with flag 1 is appended, one with flag 0 executed.
@@ -792,19 +748,19 @@ pub applied-executed : (s : Store) (c : Command) → c .flag ≡ false → appli
 unfolding appliedOf
 applied-executed s c flag = ap (λ b. cond b (appendedOf s c) (executedAs s (roleOf (c .kind)))) flag
 
--- An accepted append: the open macro has a slot for it, and gets it as its next entry.
+-- An accepted append: an entry is free for it, and the open macro gets it as its next one.
 pub record Appends (s : Store) (c : Command) : Type 0 where
   pub small : s .opened < 8
-  pub room : countOf s (s .opened) < 24
+  pub room : usedIn s < 192
   pub entry : SoundEntry s (s .opened) c
-  pub effect : appliedOf s c ≡ kept s (s .opened) c
+  pub effect : appliedOf s c ≡ kept s c
   pub keeps : Good (appliedOf s c)
 
 pub appends : (s : Store) → Good s → (c : Command) → c .flag ≡ true → judgeCode c ≡ 0 → permitCode s c ≡ 0 → Appends s c
 appends s good c flag judge permit =
     let passed : Passed s true (roleOf (c .kind)) = subst (λ b. Passed s b (roleOf (c .kind))) flag (passes s c permit) in
     let small : s .opened < 8 = good .marks .opened (eqb-false (s .opened) 255 (passed .no11)) in
-    let room : countOf s (s .opened) < 24 = leb-false 24 (countOf s (s .opened)) (passed .no16) in
+    let room : usedIn s < 192 = leb-false 192 (usedIn s) (passed .no16) in
     let target : TargetBelow s (s .opened) (roleOf (c .kind)) = target-of s (s .opened) (roleOf (c .kind)) (passed .no17) (passed .no18) in
     let entry : SoundEntry s (s .opened) c = record { flagged = flag; allowed = judge; target = target } in
     record {
@@ -822,7 +778,7 @@ executed-passed s c e permit = subst (λ b. Passed s b (roleOf (c .kind))) e (pa
 -- An accepted command that is executed, by its role.
 executed-keeps : (s : Store) → Good s → (r : Role) → InRange r → Passed s false r → Good (executedAs s r)
 executed-keeps s good Role.Plain range h = good
-executed-keeps s good (Role.Open m) range h = opened-keeps s good m range (h .no13)
+executed-keeps s good (Role.Open m) range h = opened-keeps s good m range (none-runs (s .opened) (h .no12)) (h .no13)
 executed-keeps s good Role.Close range h =
     let m = s .opened in
     let some = eqb-false (countOf s m) 0 (h .no14) in

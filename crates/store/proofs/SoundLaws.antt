@@ -1,22 +1,38 @@
--- Laws of the store's soundness: tests of all entries and of all macros, one after another, and lengths that are told up to 601.
-use Prim.Native.Nat.{ℕ, _+_, _≤_, _<_}
+-- Laws of the store's soundness: an entry by its words, tests of all entries and of all macros, one after another, and lengths that are told up
+-- to 601.
+use Prim.Native.Nat.{ℕ, _+_, _%_, _≤_, _<_}
 use mathlib.Core.Path.{_≡_, refl, sym, ap, _∙_}
 use mathlib.Core.List.{List, [], _∷_}
-use mathlib.Core.Bool.{Bool, true, false, _&&_, _||_, true≢false}
+use mathlib.Core.Bool.{Bool, true, false, cond, not, _&&_, _||_, true≢false}
 use native.Mathlib.Omega.{arith}
 use native.Mathlib.Numerals.{add-one}
 use lib.ListN.{length, getD}
 use lib.Dec.{leb, eqb}
-use borrow.Author.Tests.{leb-true, leb-false, eq-eqb, ne-eqb}
+use borrow.Author.Tests.{leb-true, leb-false, le-leb, lt-leb, eqb-true}
+use Rattle.wire.specs.declared.table.Form.{Form}
+use Rattle.wire.specs.declared.table.Row.{Row}
+use Rattle.wire.specs.declared.table.Found.{Found}
+use Rattle.wire.specs.declared.kinds.Kind.{Kind}
 use Rattle.wire.specs.declared.kinds.Command.{Command}
 use Rattle.wire.specs.declared.judging.Refusal.{Refusal}
+use Rattle.wire.specs.declared.judging.Told.{Told}
 use Rattle.wire.specs.declared.judging.Judged.{Judged}
-use Rattle.wire.specs.Judge.{toldOf, toldJudged, judged, judgeCode}
+use Rattle.wire.specs.Codes.{Check, _when_, firstOf}
+use Rattle.wire.specs.Table.{rowOf}
+use Rattle.wire.specs.Kind.{kindOf}
+use Rattle.wire.specs.Judge.{toldOf, toldJudged, firstBad, flagChecks, rowChecks}
 use Rattle.store.specs.declared.Store.{Store}
-use Rattle.store.specs.Slots.{countOf, isClosed}
+use Rattle.store.specs.declared.tally.Tally.{Tally}
+use Rattle.store.specs.Roles.{roleOf, isRun, numberOf}
+use Rattle.store.specs.Words.{noCommand, commandFor}
+use Rattle.store.specs.Pool.{isClosed, usedIn, sizeOf, startOf, between}
 use Rattle.store.specs.WrittenOut.{writtenOut}
+use Rattle.store.specs.Checks.{row17, row18}
 use Rattle.store.specs.LookupSteps.{cappedLength, lengthsTo, TellsBelow, Due}
-use Rattle.store.specs.Sound.{allBelow, allOf, macroHolds, runningHolds, entriesHold, storeSound}
+use Rattle.store.specs.Sound.{allBelow, allOf, entryHolds, macroHolds, poolHolds, runningHolds, storeSound}
+use Rattle.store.specs.TallySteps.{storeOf, formHolds, macroBy}
+use Rattle.store.proofs.Entries.{in-range-judge}
+use Rattle.store.proofs.Walk.{entries-at}
 use Rattle.store.proofs.Sound.{below-of, closed-of, sound-of, mark-small}
 
 -- A command passes 8 to 10 exactly where the wire's judgement allows it: no refusal has the code 0.
@@ -33,15 +49,99 @@ refusal-code Refusal.FlagForbidden = refl
 refusal-code Refusal.FlagMissing = refl
 refusal-code Refusal.NoRoom = refl
 
-code-told : (e : Command) (r : Judged) → toldJudged r ≡ judged e → judgeCode e ≡ toldJudged r .code
-code-told e r told = sym (ap (λ t. t .code) told)
+pub passes-allowed : (told : Told) (r : Judged) → toldJudged r ≡ told → r ≡ Judged.Allowed → true ≡ eqb (told .code) 0
+passes-allowed told r tells is = rw (← tells, is)
 
-pub passes-allowed : (e : Command) (r : Judged) → toldJudged r ≡ judged e → r ≡ Judged.Allowed → true ≡ eqb (judgeCode e) 0
-passes-allowed e r told is = rw (code-told e r told, is)
+pub passes-refused : (told : Told) (r : Judged) (refusal : Refusal) → toldJudged r ≡ told → r ≡ Judged.Refused refusal
+    → false ≡ eqb (told .code) 0
+passes-refused told r refusal tells is = rw (← tells, is) (sym (refusal-code refusal))
 
-pub passes-refused : (e : Command) (r : Judged) (refusal : Refusal) → toldJudged r ≡ judged e → r ≡ Judged.Refused refusal
-    → false ≡ eqb (judgeCode e) 0
-passes-refused e r refusal told is = rw (code-told e r told, is) (sym (refusal-code refusal))
+-- Three tests, each told otherwise.
+all-three : {a b c x y z : Bool} → a ≡ x → b ≡ y → c ≡ z → (x && y && z) ≡ (a && b && c)
+all-three p q r = rw (p, q, r)
+
+passed-true : (b : Bool) → b ≡ (b && true && true)
+passed-true true = refl
+passed-true false = refl
+
+not-not : (b : Bool) → not (not b) ≡ b
+not-not true = refl
+not-not false = refl
+
+-- An entry with flag 1 by its form and arguments: they pass 8 to 10, and for a RUN 17 and 18.
+module _ (closed : List Bool) (m : ℕ) (first second : ℕ) where
+  form-as : (form : Form)
+      → let role = roleOf (kindOf form first second) in
+      (eqb (firstOf (rowChecks (rowOf form) true first second)) 0 && not (row17 true role m) && not (row18 role closed))
+      ≡ formHolds closed m form first second
+  form-as form = go (eqb (firstBad (rowOf form) first second) 0) refl
+    where
+      kind : Kind
+      kind = kindOf form first second
+
+      by-rows : Bool → List Check
+      by-rows inside = 8 when not inside ∷ flagChecks (rowOf form .flags) true
+
+      go : (inside : Bool) → eqb (firstBad (rowOf form) first second) 0 ≡ inside
+          → (eqb (firstOf (by-rows inside)) 0 && not (row17 true (roleOf kind) m) && not (row18 (roleOf kind) closed))
+          ≡ entryHolds closed m (cond inside (record { flag = true; kind = kind }) noCommand)
+      go true e =
+          let judge = in-range-judge form true first second (eqb-true (firstBad (rowOf form) first second) 0 e) in
+          ap (λ code. eqb code 0 && not (row17 true (roleOf kind) m) && not (row18 (roleOf kind) closed))
+          (sym (judge ∙ ap (λ inside. firstOf (by-rows inside)) e))
+      go false e = refl
+
+  -- What the code asks of a form's row is asked by the form.
+  passed-as : (f : Form) (row : Row) (passed : Bool) → row ≡ rowOf f → passed ≡ eqb (firstOf (rowChecks row true first second)) 0
+      → passed ≡ eqb (firstOf (rowChecks (rowOf f) true first second)) 0
+  passed-as f row passed is told = told ∙ ap (λ (r : Row). eqb (firstOf (rowChecks r true first second)) 0) is
+
+  pub form-plain : (form f : Form) (row : Row) (passed : Bool) → form ≡ f → isRun (roleOf (kindOf f first second)) ≡ false → row ≡ rowOf f
+      → passed ≡ eqb (firstOf (rowChecks row true first second)) 0
+      → passed ≡ formHolds closed m form first second
+  form-plain form f row passed same other is told =
+      let role = roleOf (kindOf f first second) in
+      let upward = ap (λ run. not (run && leb m (numberOf role))) other in
+      let unclosed = ap (λ run. not (run && not (getD closed (numberOf role) false))) other in
+      rw same (passed-true passed ∙ all-three (sym (passed-as f row passed is told)) upward unclosed ∙ form-as f)
+
+  -- A RUN, whose target is the first argument's low byte.
+  module _ (row : Row) (passed : Bool) (is : row ≡ rowOf Form.Run) (told : passed ≡ eqb (firstOf (rowChecks row true first second)) 0) where
+    run-passed : {b : Bool} → passed ≡ b → eqb (firstOf (rowChecks (rowOf Form.Run) true first second)) 0 ≡ b
+    run-passed e = sym (passed-as Form.Run row passed is told) ∙ e
+
+    pub run-refused : passed ≡ false → false ≡ formHolds closed m Form.Run first second
+    run-refused fails = all-three (run-passed fails) refl refl ∙ form-as Form.Run
+
+    pub run-upward : passed ≡ true → m ≤ first % 256 → false ≡ formHolds closed m Form.Run first second
+    run-upward holds above = all-three (run-passed holds) (ap not (le-leb m (first % 256) above)) refl ∙ form-as Form.Run
+
+    pub run-closed : (shut : Bool) → passed ≡ true → first % 256 < m → shut ≡ getD closed (first % 256) false
+        → shut ≡ formHolds closed m Form.Run first second
+    run-closed shut holds below marked =
+        let mark = getD closed (first % 256) false in
+        all-three (run-passed holds) (ap not (lt-leb m (first % 256) below)) (not-not mark ∙ sym marked) ∙ form-as Form.Run
+
+-- An entry by its first word: with flag 0, or with an opcode that is not in the table, it does not hold; otherwise its form is asked.
+module _ (closed : List Bool) (m : ℕ) (found : Found) (flag : Bool) (first second : ℕ) where
+  pub entry-unflagged : flag ≡ false → false ≡ entryHolds closed m (commandFor found flag first second)
+  entry-unflagged off = rw off (go found)
+    where
+      by : (inside : Bool) (kind : Kind) → false ≡ entryHolds closed m (cond inside (record { flag = false; kind = kind }) noCommand)
+      by true kind = refl
+      by false kind = refl
+
+      go : (f : Found) → false ≡ entryHolds closed m (commandFor f false first second)
+      go (Found.Known form words) = by (eqb (firstBad (rowOf form) first second) 0) (kindOf form first second)
+      go Found.Unknown = refl
+
+  pub entry-unknown : found ≡ Found.Unknown → false ≡ entryHolds closed m (commandFor found flag first second)
+  entry-unknown is = rw is
+
+  pub entry-known : (form : Form) (words : ℕ) (holds : Bool) → found ≡ Found.Known form words → flag ≡ true
+      → holds ≡ formHolds closed m form first second
+      → holds ≡ entryHolds closed m (commandFor found flag first second)
+  entry-known form words holds is on told = rw (is, on) told
 
 -- A test of all elements, one after another.
 pub all-on : (test : Command → Bool) (e : Command) (es rest : List Command) → es ≡ e ∷ rest → test e ≡ true → allOf test es ≡ allOf test rest
@@ -65,7 +165,7 @@ pub below-on : (test : ℕ → Bool) (n : ℕ) → allBelow n test ≡ true → 
 unfolding allBelow
 below-on test n all here = rw (add-one, allBelow, all, here)
 
-pub below-fail : (test : ℕ → Bool) (n k : ℕ) → k < n → test k ≡ false → allBelow n test ≡ false
+below-fail : (test : ℕ → Bool) (n k : ℕ) → k < n → test k ≡ false → allBelow n test ≡ false
 below-fail test n k h fails = go (allBelow n test) refl
   where
     go : (t : Bool) → allBelow n test ≡ t → allBelow n test ≡ false
@@ -82,29 +182,24 @@ same-leb a b x y there back = go (leb a b) (leb x y) refl refl
     go false true p q = absurd (omega (arith, back (leb-true x y q), leb-false a b p))
     go false false p q = refl
 
--- Macro m by what the code told of it: its mark, its count, its length up to 601, and its entries.
-module _ (s : Store) (m count : ℕ) (shut : Bool) (counted : count ≡ countOf s m) (marked : shut ≡ isClosed s m) where
-  pub closed-told : (told : ℕ) (fits : Bool) → told ≡ cappedLength s m → shut ≡ true
-      → fits ≡ (leb 1 count && leb count 24 && leb 1 told && leb told 600)
-      → (fits && entriesHold s m) ≡ macroHolds s m
-  closed-told told fits capped is tests =
-      let l = length (writtenOut s m) in
-      let some : leb 1 told ≡ leb 1 l = same-leb 1 told 1 l (λ h. omega arith) (λ h. omega arith) in
-      let short : leb told 600 ≡ leb l 600 = same-leb told 600 l 600 (λ h. omega arith) (λ h. omega arith) in
-      rw (← marked, is, tests, counted, some, short)
-
-  pub open-told : shut ≡ false → s .opened ≡ m → (leb count 24 && entriesHold s m) ≡ macroHolds s m
-  open-told is opened = rw (← marked, is, eq-eqb (s .opened) m opened, counted)
-
-  pub other-told : shut ≡ false → (s .opened ≡ m → ⊥) → true ≡ macroHolds s m
-  other-told is opened = rw (← marked, is, ne-eqb (s .opened) m opened)
+-- Macro m by a tally that has the lengths: where its entries start and how many they are is as in the store.
+pub macro-told : (ws : List ℕ) (t : Tally) (m start size : ℕ) (holds : Bool) → getD (t .lengths) m 0 ≡ cappedLength (storeOf ws t) m
+    → start ≡ startOf (t .counts) (t .closed) (t .opened) m → size ≡ sizeOf (t .counts) (t .closed) (t .opened) m
+    → holds ≡ macroBy t m (between ws start size) → holds ≡ macroHolds (storeOf ws t) m
+macro-told ws t m start size holds capped starts sized judged =
+    let told = getD (t .lengths) m 0 in
+    let l = length (writtenOut (storeOf ws t) m) in
+    let some : leb 1 told ≡ leb 1 l = same-leb 1 told 1 l (λ h. omega arith) (λ h. omega arith) in
+    let short : leb told 600 ≡ leb l 600 = same-leb told 600 l 600 (λ h. omega arith) (λ h. omega arith) in
+    judged ∙ rw (entries-at (storeOf ws t) m start size starts sized, some, short)
 
 -- Where every macro holds, the running one's capped length is its length.
-pub running-told : (s : Store) (table : List ℕ) → length (s .closed) ≡ 8
+pub running-told : (s : Store) (table : List ℕ) (holds : Bool) → length (s .closed) ≡ 8
     → TellsBelow s 8 table
     → allBelow 8 (macroHolds s) ≡ true
-    → (eqb (s .running) 255 || (isClosed s (s .running) && leb 1 (s .left) && leb (s .left) (getD table (s .running) 0))) ≡ runningHolds s
-running-told s table marks tells all = go (isClosed s (s .running)) refl
+    → holds ≡ (eqb (s .running) 255 || (isClosed s (s .running) && leb 1 (s .left) && leb (s .left) (getD table (s .running) 0)))
+    → holds ≡ runningHolds s
+running-told s table holds marks tells all judged = judged ∙ go (isClosed s (s .running)) refl
   where
     go : (t : Bool) → isClosed s (s .running) ≡ t
         → (eqb (s .running) 255 || (t && leb 1 (s .left) && leb (s .left) (getD table (s .running) 0)))
@@ -115,6 +210,25 @@ running-told s table marks tells all = go (isClosed s (s .running)) refl
         let fits = closed-of s (s .running) (rw shut at (below-of 8 (macroHolds s) all (s .running) number)) .ends in
         let same : getD table (s .running) 0 ≡ length (writtenOut s (s .running)) = tells (s .running) number ∙ omega arith in
         rw same
+
+-- The whole store by what the code finds: too many entries, a macro that does not hold, or neither.
+module _ (s : Store) where
+  pub sound-full : (used : ℕ) → used ≡ usedIn s → 192 < used → false ≡ storeSound s
+  unfolding storeSound
+  sound-full used is over = rw (lt-leb (usedIn s) 192 (omega arith))
+
+  pub sound-fails : (m : ℕ) → m < 8 → macroHolds s m ≡ false → false ≡ storeSound s
+  unfolding storeSound
+  sound-fails m small fails = rw (below-fail (macroHolds s) 8 m small fails) (go (poolHolds s))
+    where
+      go : (b : Bool) → false ≡ (b && false && runningHolds s)
+      go true = refl
+      go false = refl
+
+  pub sound-by-running : (used : ℕ) (running : Bool) → used ≡ usedIn s → used ≤ 192 → allBelow 8 (macroHolds s) ≡ true → running ≡ runningHolds s
+      → running ≡ storeSound s
+  unfolding storeSound
+  sound-by-running used running is fits all told = rw (le-leb (usedIn s) 192 (omega arith), all) told
 
 -- So the macro that a sound store runs is one of the eight, and its length is told whole.
 pub running-due : (s : Store) (table : List ℕ) → length (s .closed) ≡ 8 → storeSound s ≡ true → (s .running ≡ 255 → ⊥) → table ≡ lengthsTo s 8

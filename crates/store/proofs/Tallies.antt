@@ -2,29 +2,32 @@
 use Prim.Native.Nat.{ℕ, _+_, _≤_, _<_, min}
 use mathlib.Core.Path.{_≡_, refl, sym, ap, _∙_, subst}
 use mathlib.Core.Logic.{_⊎_, inl, inr}
-use mathlib.Core.List.{List}
+use mathlib.Core.List.{List, _++_}
 use mathlib.Core.Bool.{Bool, true, false, cond, true≢false}
 use native.Mathlib.Omega.{arith}
 use lib.ListN.{length, getD, set, length-append, length-set, length-replicate, List·getD-eq-default, getD-replicate}
 use lib.Seq.{getD-set-same, getD-set-other}
 use lib.Dec.{ltb, eqb}
-use borrow.Author.Tests.{ltb-true, ltb-false, eqb-true, eqb-false, not-false, lt-ltb, lt-leb}
+use borrow.Author.Tests.{ltb-true, ltb-false, eqb-true, eqb-false, not-false, lt-ltb}
 use Rattle.wire.specs.declared.kinds.Command.{Command}
 use Rattle.wire.specs.Judge.{judgeCode}
 use Rattle.store.specs.declared.Store.{Store}
 use Rattle.store.specs.declared.roles.Role.{Role}
 use Rattle.store.specs.declared.tally.Tally.{Tally}
 use Rattle.store.specs.Roles.{roleOf}
-use Rattle.store.specs.Slots.{isClosed, entriesOf, kept}
+use Rattle.store.specs.Pool.{isClosed, usedIn, entriesOf, kept}
 use Rattle.store.specs.WrittenOut.{flat, writtenOut}
 use Rattle.store.specs.LookupSteps.{cappedLength, lengthsTo, spanIn}
 use Rattle.store.specs.Checks.{permitCode}
 use Rattle.store.specs.Effects.{openedOf, closedOf, clearedOf, executedAs, appliedOf}
-use Rattle.store.specs.TallySteps.{tallyOf, storeOf, tallyCode, hasSlot, appendedBy, executedBy, tallyAfter, entriesAfter, Tallied}
+use Rattle.store.specs.TallySteps.{tallyOf, storeOf, takesBy, tallyCode, appendedBy, executedBy, tallyAfter, poolAfter, Tallied}
+use Rattle.store.proofs.Entries.{storedAs, stored-role}
+use Rattle.store.proofs.Kept.{closed-entries, entries-none}
 use Rattle.store.proofs.Parts.{partOf, part-run, part-wait, part-other, none-past}
 use Rattle.store.proofs.WrittenOut.{written-is, written-none}
-use Rattle.store.proofs.Sound.{TargetBelow, Shaped, Good, closed-small, Extends, list-stays, lists-stay, Passed, InRange, judged-role}
-use Rattle.store.proofs.Sound.{runningAs, opened-extends, closed-extends, kept-extends, Appends, appends, applied-executed, executed-passed}
+use Rattle.store.proofs.Sound.{TargetBelow, Shaped, Good, closed-small, Extends, list-stays, lists-stay, Passed, none-runs, InRange}
+use Rattle.store.proofs.Sound.{judged-role, runningAs, opened-extends, closed-extends, kept-extends, Appends, appends, applied-executed}
+use Rattle.store.proofs.Sound.{executed-passed}
 use Rattle.store.proofs.Running.{closed-lasts, kept-written}
 use Rattle.store.proofs.Laws.{over-capped}
 use Rattle.store.proofs.Lengths.{length-lengthsTo, lengths-tell}
@@ -81,30 +84,35 @@ module _ (s : Store) (good : Good s) (table : List ℕ) (tells : Tells s table) 
       go m (inr is) false e = absurd (eqb-false m n e (is ∙ opened))
 
   -- OPEN: an empty macro has no seconds.
-  opened-tells : (m : ℕ) → m < 8 → isClosed s m ≡ false → Tells (openedOf s m) (set table m 0)
-  unfolding entriesOf
-  opened-tells m small u =
-      set-tells (openedOf s m) m 0 (opened-extends s m u) refl refl small
-      (rw (written-is (openedOf s m) m, getD-set-same (s .counts) m 0 0 (omega (arith, good .shaped .counts)), written-none (openedOf s m) m))
+  opened-tells : (m : ℕ) → m < 8 → s .opened ≡ 255 → isClosed s m ≡ false → Tells (openedOf s m) (set table m 0)
+  opened-tells m small free u =
+      set-tells (openedOf s m) m 0 (opened-extends s (good .shaped) m small free u) refl refl small
+      (rw (written-is (openedOf s m) m, entries-none (openedOf s m) m count, written-none (openedOf s m) m))
+    where
+      count : getD (set (s .counts) m 0) m 0 ≡ 0
+      count = getD-set-same (s .counts) m 0 0 (omega (arith, good .shaped .counts))
 
-  -- An append: the open macro is longer by the new entry's seconds.
+  -- An append: the open macro is longer by the new entry's seconds, which are those of the entry as it is stored.
   kept-tells : (c : Command) → Appends s c
-      → Tells (kept s (s .opened) c) (set table (s .opened) (min 601 (getD table (s .opened) 0 + spanIn (s .closed) table (s .opened) (roleOf (c .kind)))))
+      → Tells (kept s c) (set table (s .opened) (min 601 (getD table (s .opened) 0 + spanIn (s .closed) table (s .opened) (roleOf (c .kind)))))
   unfolding kept
   kept-tells c a =
-      set-tells (kept s m c) m _ (kept-extends s m c (a .room) u) refl refl (a .small)
-      (rw (kept-written s good m c (a .small) (a .room) u, length-append)
-      (omega (arith, tells .lengths m (inr refl), part-told s table tells m c (roleOf (c .kind)) refl (a .entry .target))))
+      set-tells (kept s c) m _ (kept-extends s (good .shaped) c (a .small) (a .room) (good .marks .unclosed)) refl refl (a .small)
+      (grown (storedAs c) (stored-role c (a .entry .allowed)) (kept-written s good c (a .small) (a .room)))
     where
       m : ℕ
       m = s .opened
 
-      u : isClosed s m ≡ false
-      u = good .marks .unclosed
+      role : Role
+      role = roleOf (c .kind)
+
+      grown : (e : Command) → roleOf (e .kind) ≡ role → writtenOut (kept s c) m ≡ writtenOut s m ++ partOf s m e
+          → min 601 (getD table m 0 + spanIn (s .closed) table m role) ≡ cappedLength (kept s c) m
+      grown e same list =
+          rw (list, length-append) (omega (arith, tells .lengths m (inr refl), part-told s table tells m e role same (a .entry .target)))
 
   -- CLOSE: the open macro keeps its list and its place, and none is open.
   closed-tells : s .opened < 8 → Tells (closedOf s) table
-  unfolding entriesOf
   closed-tells small = record { eight = tells .eight; lengths = go }
     where
       ext : Extends s (closedOf s)
@@ -115,7 +123,10 @@ module _ (s : Store) (good : Good s) (table : List ℕ) (tells : Tells s table) 
           rw (eqb-true m (s .opened) e)
           (tells .lengths (s .opened) (inr refl)
           ∙ ap (λ l. min 601 (length l))
-          (sym (list-stays s (closedOf s) good ext (s .opened) refl (good .sound .opened small (good .marks .unclosed) .entries))))
+          (sym
+          (list-stays s (closedOf s) good ext (s .opened)
+          (closed-entries s (good .shaped .marks) (s .opened) small)
+          (good .sound .opened small (good .marks .unclosed)))))
       by m c false e =
           closed-told (closedOf s) ext m (sym (getD-set-other (s .closed) (s .opened) m true false (eqb-false m (s .opened) e)) ∙ c)
 
@@ -134,77 +145,79 @@ module _ (s : Store) (good : Good s) (table : List ℕ) (tells : Tells s table) 
     where
       go : (m : ℕ) → (isClosed (clearedOf s) m ≡ true) ⊎ (m ≡ 255) → getD table m 0 ≡ cappedLength (clearedOf s) m
       go m (inl c) =
-          let shape : Shaped (clearedOf s) = record { slots = good .shaped .slots; counts = refl; marks = refl } in
+          let shape : Shaped (clearedOf s) = record { pool = good .shaped .pool; counts = refl; marks = refl } in
           absurd (true≢false (sym c ∙ getD-replicate 8 m false false (closed-small (clearedOf s) shape m c)))
       go m (inr e) = past-told (clearedOf s) table m refl (tells .eight) (omega arith)
 
--- A store that is given by its entries and its tally, so that what the two share is the same by definition.
-module _ (es : List Command) (t : Tally) (tells : Tells (storeOf es t) (t .lengths)) where
+-- A store that is given by its pool and its tally, so that what the two share is the same by definition.
+module _ (pool : List ℕ) (t : Tally) (tells : Tells (storeOf pool t) (t .lengths)) where
   -- Of rows 11 to 19 only row 15 asks for a length, the open macro's.
-  parts-code : (c : Command) → tallyCode t c ≡ permitCode (storeOf es t) c
+  parts-code : (c : Command) → tallyCode t c ≡ permitCode (storeOf pool t) c
   unfolding tallyCode permitCode
-  parts-code c = rw (tells .lengths (t .opened) (inr refl), over-capped (length (writtenOut (storeOf es t) (t .opened))))
+  parts-code c = rw (tells .lengths (t .opened) (inr refl), over-capped (length (writtenOut (storeOf pool t) (t .opened))))
 
   -- An executed command, by its role: only RUN asks for a length, of a closed macro, which the cap of 601 does not touch.
-  executed-effect : Good (storeOf es t) → (r : Role) → Passed (storeOf es t) false r → storeOf es (executedBy t r) ≡ executedAs (storeOf es t) r
+  executed-effect : Good (storeOf pool t) → (r : Role) → Passed (storeOf pool t) false r
+      → storeOf pool (executedBy t r) ≡ executedAs (storeOf pool t) r
   executed-effect good Role.Plain h = refl
   executed-effect good (Role.Open m) h = refl
   executed-effect good Role.Close h = refl
   executed-effect good (Role.Run m) h =
-      let closed = not-false (isClosed (storeOf es t) m) (h .no18) in
-      ap (λ n. runningAs (storeOf es t) m n) (tells .lengths m (inl closed) ∙ omega (arith, closed-lasts (storeOf es t) good m closed .most))
+      let closed = not-false (isClosed (storeOf pool t) m) (h .no18) in
+      ap (λ n. runningAs (storeOf pool t) m n) (tells .lengths m (inl closed) ∙ omega (arith, closed-lasts (storeOf pool t) good m closed .most))
   executed-effect good (Role.Wait n) h = refl
   executed-effect good Role.Stop h = refl
   executed-effect good Role.Clear h = refl
 
   -- What the table tells after it.
-  executed-tells : Good (storeOf es t) → (r : Role) → InRange r → Passed (storeOf es t) false r
-      → Tells (executedAs (storeOf es t) r) (executedBy t r .lengths)
+  executed-tells : Good (storeOf pool t) → (r : Role) → InRange r → Passed (storeOf pool t) false r
+      → Tells (executedAs (storeOf pool t) r) (executedBy t r .lengths)
   executed-tells good Role.Plain range h = tells
-  executed-tells good (Role.Open m) range h = opened-tells (storeOf es t) good (t .lengths) tells m range (h .no13)
+  executed-tells good (Role.Open m) range h =
+      opened-tells (storeOf pool t) good (t .lengths) tells m range (none-runs (t .opened) (h .no12)) (h .no13)
   executed-tells good Role.Close range h =
-      closed-tells (storeOf es t) good (t .lengths) tells (good .marks .opened (eqb-false (t .opened) 255 (h .no11)))
-  executed-tells good (Role.Run m) range h = running-tells (storeOf es t) good (t .lengths) tells m (length (writtenOut (storeOf es t) m))
+      closed-tells (storeOf pool t) good (t .lengths) tells (good .marks .opened (eqb-false (t .opened) 255 (h .no11)))
+  executed-tells good (Role.Run m) range h = running-tells (storeOf pool t) good (t .lengths) tells m (length (writtenOut (storeOf pool t) m))
   executed-tells good (Role.Wait n) range h = tells
-  executed-tells good Role.Stop range h = running-tells (storeOf es t) good (t .lengths) tells 255 0
-  executed-tells good Role.Clear range h = cleared-tells (storeOf es t) good (t .lengths) tells
+  executed-tells good Role.Stop range h = running-tells (storeOf pool t) good (t .lengths) tells 255 0
+  executed-tells good Role.Clear range h = cleared-tells (storeOf pool t) good (t .lengths) tells
 
-  -- An accepted append has its slot.
-  slot-found : (c : Command) → Appends (storeOf es t) c → hasSlot (t .counts) (t .opened) ≡ true
-  slot-found c a = rw (lt-ltb (t .opened) 8 (a .small), lt-leb 24 (getD (t .counts) (t .opened) 0) (a .room))
+  -- An accepted append is taken.
+  taken : (c : Command) → Appends (storeOf pool t) c → takesBy t ≡ true
+  taken c a = rw (lt-ltb (t .opened) 8 (a .small), lt-ltb (usedIn (storeOf pool t)) 192 (a .room))
 
   -- An accepted command by its flag: its effect, and what the table tells afterwards.
-  module _ (good : Good (storeOf es t)) (c : Command) (judge : judgeCode c ≡ 0) (permit : permitCode (storeOf es t) c ≡ 0) where
-    parts-effect : storeOf (entriesAfter es t c) (tallyAfter t c) ≡ appliedOf (storeOf es t) c
+  module _ (good : Good (storeOf pool t)) (c : Command) (judge : judgeCode c ≡ 0) (permit : permitCode (storeOf pool t) c ≡ 0) where
+    parts-effect : storeOf (poolAfter pool t c) (tallyAfter t c) ≡ appliedOf (storeOf pool t) c
     unfolding tallyAfter kept
     parts-effect = go (c .flag) refl
       where
-        go : (b : Bool) → c .flag ≡ b → storeOf (entriesAfter es t c) (tallyAfter t c) ≡ appliedOf (storeOf es t) c
+        go : (b : Bool) → c .flag ≡ b → storeOf (poolAfter pool t c) (tallyAfter t c) ≡ appliedOf (storeOf pool t) c
         go true e =
-            let a = appends (storeOf es t) good c e judge permit in
-            rw (a .effect, e, slot-found c a)
+            let a = appends (storeOf pool t) good c e judge permit in
+            rw (a .effect, e, taken c a)
         go false e =
-            rw (applied-executed (storeOf es t) c e, e) (executed-effect good (roleOf (c .kind)) (executed-passed (storeOf es t) c e permit))
+            rw (applied-executed (storeOf pool t) c e, e) (executed-effect good (roleOf (c .kind)) (executed-passed (storeOf pool t) c e permit))
 
-    parts-tells : Tells (appliedOf (storeOf es t) c) (tallyAfter t c .lengths)
+    parts-tells : Tells (appliedOf (storeOf pool t) c) (tallyAfter t c .lengths)
     unfolding tallyAfter
     parts-tells = go (c .flag) refl
       where
         role : Role
         role = roleOf (c .kind)
 
-        go : (b : Bool) → c .flag ≡ b → Tells (appliedOf (storeOf es t) c) (cond b (appendedBy t role) (executedBy t role) .lengths)
+        go : (b : Bool) → c .flag ≡ b → Tells (appliedOf (storeOf pool t) c) (cond b (appendedBy t role) (executedBy t role) .lengths)
         go true e =
-            let a = appends (storeOf es t) good c e judge permit in
-            rw (a .effect, slot-found c a) (kept-tells (storeOf es t) good (t .lengths) tells c a)
+            let a = appends (storeOf pool t) good c e judge permit in
+            rw (a .effect, taken c a) (kept-tells (storeOf pool t) good (t .lengths) tells c a)
         go false e =
-            rw (applied-executed (storeOf es t) c e)
-            (executed-tells good role (judged-role c judge) (executed-passed (storeOf es t) c e permit))
+            rw (applied-executed (storeOf pool t) c e)
+            (executed-tells good role (judged-role c judge) (executed-passed (storeOf pool t) c e permit))
 
-    parts-after : Tallied (appliedOf (storeOf es t) c) (tallyAfter t c)
+    parts-after : Tallied (appliedOf (storeOf pool t) c) (tallyAfter t c)
     parts-after =
         record {
-          same = ap (λ u. storeOf (u .entries) (tallyAfter t c)) (sym parts-effect) ∙ parts-effect;
+          same = ap (λ u. storeOf (u .pool) (tallyAfter t c)) (sym parts-effect) ∙ parts-effect;
           eight = parts-tells .eight;
           lengths = parts-tells .lengths;
         }
@@ -212,15 +225,15 @@ module _ (es : List Command) (t : Tally) (tells : Tells (storeOf es t) (t .lengt
 -- Rows 11 to 19 by a true tally are the store's.
 pub tallied-code : (s : Store) (t : Tally) → Tallied s t → (c : Command) → tallyCode t c ≡ permitCode s c
 tallied-code s t is c =
-    subst (λ u. Tells u (t .lengths) → tallyCode t c ≡ permitCode u c) (is .same) (λ tells. parts-code (s .entries) t tells c) (tells-of s t is)
+    subst (λ u. Tells u (t .lengths) → tallyCode t c ≡ permitCode u c) (is .same) (λ tells. parts-code (s .pool) t tells c) (tells-of s t is)
 
 -- An accepted command takes effect by the tally as it does on the store,
 pub tallied-effect : (s : Store) (t : Tally) → Good s → Tallied s t → (c : Command) → judgeCode c ≡ 0 → permitCode s c ≡ 0
-    → storeOf (entriesAfter (s .entries) t c) (tallyAfter t c) ≡ appliedOf s c
+    → storeOf (poolAfter (s .pool) t c) (tallyAfter t c) ≡ appliedOf s c
 tallied-effect s t good is c judge permit =
-    subst (λ u. Tells u (t .lengths) → Good u → permitCode u c ≡ 0 → storeOf (entriesAfter (s .entries) t c) (tallyAfter t c) ≡ appliedOf u c)
+    subst (λ u. Tells u (t .lengths) → Good u → permitCode u c ≡ 0 → storeOf (poolAfter (s .pool) t c) (tallyAfter t c) ≡ appliedOf u c)
     (is .same)
-    (λ tells good permit. parts-effect (s .entries) t tells good c judge permit)
+    (λ tells good permit. parts-effect (s .pool) t tells good c judge permit)
     (tells-of s t is)
     good
     permit
@@ -231,7 +244,7 @@ pub tallied-after : (s : Store) (t : Tally) → Good s → Tallied s t → (c : 
 tallied-after s t good is c judge permit =
     subst (λ u. Tells u (t .lengths) → Good u → permitCode u c ≡ 0 → Tallied (appliedOf u c) (tallyAfter t c))
     (is .same)
-    (λ tells good permit. parts-after (s .entries) t tells good c judge permit)
+    (λ tells good permit. parts-after (s .pool) t tells good c judge permit)
     (tells-of s t is)
     good
     permit

@@ -22,7 +22,7 @@ denialOf code =
     (cond (eqb code 13) Denial.AlreadyClosed
     (cond (eqb code 14) Denial.NoEntries
     (cond (eqb code 15) Denial.TooLong
-    (cond (eqb code 16) Denial.NoSlot
+    (cond (eqb code 16) Denial.NoneFree
     (cond (eqb code 17) Denial.NotBelow
     (cond (eqb code 18) Denial.NotClosed Denial.Running)))))))
 
@@ -37,7 +37,7 @@ permit-back (Permit.Denied Denial.AnotherOpen) = refl
 permit-back (Permit.Denied Denial.AlreadyClosed) = refl
 permit-back (Permit.Denied Denial.NoEntries) = refl
 permit-back (Permit.Denied Denial.TooLong) = refl
-permit-back (Permit.Denied Denial.NoSlot) = refl
+permit-back (Permit.Denied Denial.NoneFree) = refl
 permit-back (Permit.Denied Denial.NotBelow) = refl
 permit-back (Permit.Denied Denial.NotClosed) = refl
 permit-back (Permit.Denied Denial.Running) = refl

@@ -10,7 +10,7 @@ use Rattle.wire.specs.declared.kinds.Kind.{Kind}
 use Rattle.wire.specs.declared.kinds.Command.{Command}
 use Rattle.store.specs.declared.Store.{Store}
 use Rattle.store.specs.Roles.{roleOf}
-use Rattle.store.specs.Slots.{isClosed, entriesOf}
+use Rattle.store.specs.Pool.{isClosed, entriesOf}
 use Rattle.store.specs.WrittenOut.{writtenOut}
 use Rattle.store.proofs.Parts.{partsOf, look, partOf, writtenAs, OneSecond, parts-are, parts-append, part-run, part-wait, part-other}
 

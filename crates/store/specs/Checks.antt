@@ -11,7 +11,7 @@ use Rattle.store.specs.declared.roles.Role.{Role}
 use Rattle.store.specs.declared.checks.Denial.{Denial}
 use Rattle.store.specs.declared.checks.Permit.{Permit}
 use Rattle.store.specs.Roles.{roleOf, isOpen, isClose, isRun, isClear, numberOf}
-use Rattle.store.specs.Slots.{countOf}
+use Rattle.store.specs.Pool.{countOf, usedIn}
 use Rattle.store.specs.WrittenOut.{writtenOut}
 
 -- 01's number of each denial; 0 is permission.
@@ -21,7 +21,7 @@ codeOf Denial.AnotherOpen = 12
 codeOf Denial.AlreadyClosed = 13
 codeOf Denial.NoEntries = 14
 codeOf Denial.TooLong = 15
-codeOf Denial.NoSlot = 16
+codeOf Denial.NoneFree = 16
 codeOf Denial.NotBelow = 17
 codeOf Denial.NotClosed = 18
 codeOf Denial.Running = 19
@@ -50,9 +50,9 @@ row14 role count = isClose role && eqb count 0
 abbrev pub row15 : Role → ℕ → Bool
 row15 role seconds = isClose role && ltb 600 seconds
 
--- "append to a macro with 24 entries"
+-- "Code 16 now means that no entry is free" (02, Q-9).
 abbrev pub row16 : Bool → ℕ → Bool
-row16 flag count = flag && leb 24 count
+row16 flag used = flag && leb 192 used
 
 -- "appended RUN whose number is not below the open macro's"
 abbrev pub row17 : Bool → Role → ℕ → Bool
@@ -66,15 +66,16 @@ row18 role closed = isRun role && not (getD closed (numberOf role) false)
 abbrev pub row19 : Bool → Role → ℕ → Bool
 row19 flag role running = ((not flag && isRun role) || isClear role) && not (eqb running 255)
 
--- The rows in their order, on the numbers that they ask: how many entries the open macro has, and how many seconds it lasts.
-abbrev pub rowsFor : Bool → Role → ℕ → List Bool → ℕ → ℕ → ℕ → List Check
-rowsFor flag role opened closed count seconds running =
+-- The rows in their order, on the numbers that they ask: how many entries the open macro has, how many seconds it lasts, and how many entries are in
+-- use.
+abbrev pub rowsFor : Bool → Role → ℕ → List Bool → ℕ → ℕ → ℕ → ℕ → List Check
+rowsFor flag role opened closed count seconds used running =
     11 when row11 flag role opened
     ∷ 12 when row12 role opened
     ∷ 13 when row13 role closed
     ∷ 14 when row14 role count
     ∷ 15 when row15 role seconds
-    ∷ 16 when row16 flag count
+    ∷ 16 when row16 flag used
     ∷ 17 when row17 flag role opened
     ∷ 18 when row18 role closed
     ∷ 19 when row19 flag role running
@@ -82,7 +83,7 @@ rowsFor flag role opened closed count seconds running =
 
 abbrev pub checksAs : Store → Bool → Role → List Check
 checksAs s flag role =
-    rowsFor flag role (s .opened) (s .closed) (countOf s (s .opened)) (length (writtenOut s (s .opened))) (s .running)
+    rowsFor flag role (s .opened) (s .closed) (countOf s (s .opened)) (length (writtenOut s (s .opened))) (usedIn s) (s .running)
 
 abbrev pub storeChecks : Store → Command → List Check
 storeChecks s c = checksAs s (c .flag) (roleOf (c .kind))

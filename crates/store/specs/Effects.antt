@@ -1,52 +1,49 @@
 -- What an accepted command does to the store, and what a second does.
 use Prim.Native.Nat.{ℕ, _-_}
 use mathlib.Core.List.{List, [], _∷_}
-use mathlib.Core.Bool.{Bool, true, false, cond, not, _&&_}
+use mathlib.Core.Bool.{Bool, true, false, cond}
 use lib.ListN.{length, getD, set, replicate}
-use lib.Dec.{ltb, eqb}
+use lib.Dec.{eqb}
 use Rattle.wire.specs.declared.kinds.Kind.{Kind}
 use Rattle.wire.specs.declared.kinds.Command.{Command}
 use Rattle.store.specs.declared.Store.{Store}
 use Rattle.store.specs.declared.roles.Role.{Role}
 use Rattle.store.specs.declared.lookup.Handed.{Handed}
 use Rattle.store.specs.Roles.{roleOf}
-use Rattle.store.specs.Slots.{emptySlot, idle, full, kept}
+use Rattle.store.specs.Pool.{idle, takes, kept}
 use Rattle.store.specs.WrittenOut.{writtenOut}
 
-abbrev pub storeWith : List Command → List ℕ → List Bool → ℕ → ℕ → ℕ → Store
-storeWith entries counts closed opened running left =
-    record { entries = entries; counts = counts; closed = closed; opened = opened; running = running; left = left }
+abbrev pub storeWith : List ℕ → List ℕ → List Bool → ℕ → ℕ → ℕ → Store
+storeWith pool counts closed opened running left =
+    record { pool = pool; counts = counts; closed = closed; opened = opened; running = running; left = left }
 
 -- "Fresh: all numbers zero, .. no macro open, closed or running."
-abbrev pub freshSlots : List Command
-freshSlots = replicate 192 emptySlot
-
 abbrev pub freshStore : Store
-freshStore = storeWith freshSlots (replicate 8 0) (replicate 8 false) 255 255 0
+freshStore = storeWith (replicate 576 0) (replicate 8 0) (replicate 8 false) 255 255 0
 
 -- "A flag-1 command is only stored, as the open macro's next entry."
 abbrev pub appendedOf : Store → Command → Store
-appendedOf s c = cond (ltb (s .opened) 8 && not (full s (s .opened))) (kept s (s .opened) c) s
+appendedOf s c = cond (takes (s .counts) (s .closed) (s .opened)) (kept s c) s
 
 -- "OPEN starts an empty macro"
 abbrev pub openedOf : Store → ℕ → Store
-openedOf s m = storeWith (s .entries) (set (s .counts) m 0) (s .closed) m (s .running) (s .left)
+openedOf s m = storeWith (s .pool) (set (s .counts) m 0) (s .closed) m (s .running) (s .left)
 
 -- "CLOSE fixes it until CLEAR"
 abbrev pub closedOf : Store → Store
-closedOf s = storeWith (s .entries) (s .counts) (set (s .closed) (s .opened) true) 255 (s .running) (s .left)
+closedOf s = storeWith (s .pool) (s .counts) (set (s .closed) (s .opened) true) 255 (s .running) (s .left)
 
 -- "RUN makes its macro run from its first entry": all of its seconds are left.
 abbrev pub startedOf : Store → ℕ → Store
-startedOf s m = storeWith (s .entries) (s .counts) (s .closed) (s .opened) m (length (writtenOut s m))
+startedOf s m = storeWith (s .pool) (s .counts) (s .closed) (s .opened) m (length (writtenOut s m))
 
 -- "STOP makes the bench idle"
 abbrev pub stoppedOf : Store → Store
-stoppedOf s = storeWith (s .entries) (s .counts) (s .closed) (s .opened) 255 0
+stoppedOf s = storeWith (s .pool) (s .counts) (s .closed) (s .opened) 255 0
 
 -- "CLEAR drops all macros, the open one too"
 abbrev pub clearedOf : Store → Store
-clearedOf s = storeWith (s .entries) (replicate 8 0) (replicate 8 false) 255 (s .running) (s .left)
+clearedOf s = storeWith (s .pool) (replicate 8 0) (replicate 8 false) 255 (s .running) (s .left)
 
 -- An executed command: plain ones are not the store's.
 abbrev pub executedAs : Store → Role → Store
@@ -68,13 +65,16 @@ handedOf Handed.Nothing = []
 handedOf (Handed.Over kind) = kind ∷ []
 
 -- "if a macro runs, the next entry of its written-out list is handed over ..": of L seconds with `left` left, entry L - left.
+abbrev pub entryDue : Store → ℕ → ℕ → List Kind
+entryDue s m left = getD (writtenOut s m) (length (writtenOut s m) - left) []
+
 abbrev pub nextEntry : Store → List Kind
-nextEntry s = cond (idle s) [] (getD (writtenOut s (s .running)) (length (writtenOut s (s .running)) - s .left) [])
+nextEntry s = cond (idle s) [] (entryDue s (s .running) (s .left))
 
 -- ".. after the last one the bench is idle."
 abbrev pub countedDown : Store → Store
 countedDown s =
-    storeWith (s .entries) (s .counts) (s .closed) (s .opened) (cond (eqb (s .left - 1) 0) 255 (s .running)) (s .left - 1)
+    storeWith (s .pool) (s .counts) (s .closed) (s .opened) (cond (eqb (s .left - 1) 0) 255 (s .running)) (s .left - 1)
 
 abbrev pub afterSecond : Store → Store
 afterSecond s = cond (idle s) s (countedDown s)

@@ -1,17 +1,24 @@
 -- Steps of the implementation: no public promise of the product (`bench`, `wire`, `frame`) needs them.
 -- The written-out list of a macro by a table of lengths, without writing it out: what one entry adds to it, and which entry covers a second.
-use Prim.Native.Nat.{ℕ, zero, suc, _+_, _-_, _≤_, _<_, min}
+use Prim.Native.Nat.{ℕ, zero, suc, _+_, _-_, _%_, _≤_, _<_, min}
 use mathlib.Core.Path.{_≡_}
 use mathlib.Core.List.{List, [], _∷_}
-use mathlib.Core.Bool.{Bool, false, cond, _&&_}
+use mathlib.Core.Bool.{Bool, true, false, cond, _&&_}
 use lib.ListN.{length, getD, set, replicate}
-use lib.Dec.{ltb}
+use lib.Dec.{ltb, eqb}
+use Rattle.wire.specs.declared.table.Form.{Form}
+use Rattle.wire.specs.declared.table.Found.{Found}
 use Rattle.wire.specs.declared.kinds.Kind.{Kind}
 use Rattle.wire.specs.declared.kinds.Command.{Command}
+use Rattle.wire.specs.Table.{rowOf}
+use Rattle.wire.specs.Judge.{firstBad}
 use Rattle.store.specs.declared.Store.{Store}
 use Rattle.store.specs.declared.roles.Role.{Role}
 use Rattle.store.specs.declared.lookup.Covering.{Covering}
+use Rattle.store.specs.declared.lookup.Measured.{Measured}
 use Rattle.store.specs.Roles.{roleOf}
+use Rattle.store.specs.Words.{commandFor}
+use Rattle.store.specs.Pool.{startOf}
 use Rattle.store.specs.WrittenOut.{writtenOut}
 
 -- Lengths are told up to 601: a longer list is refused at CLOSE, so no closed macro of a sound store has one.
@@ -22,6 +29,10 @@ cappedLength s m = min 601 (length (writtenOut s m))
 unfoldable pub lengthsTo : Store → ℕ → List ℕ
 lengthsTo s zero = replicate 8 0
 lengthsTo s (suc n) = set (lengthsTo s n) n (cappedLength s n)
+
+-- The same, and where macro n starts in the pool.
+abbrev pub measuredTo : Store → ℕ → Measured
+measuredTo s n = record { lengths = lengthsTo s n; end = startOf (s .counts) (s .closed) (s .opened) n }
 
 -- A table that tells the lengths of the macros below m.
 abbrev pub TellsBelow : Store → ℕ → List ℕ → Type 0
@@ -40,6 +51,13 @@ spanIn closed table m (Role.Run target) = runSpan closed table m target
 spanIn closed table m (Role.Wait n) = n
 spanIn closed table m Role.Stop = 1
 spanIn closed table m Role.Clear = 1
+
+-- The same by a form and two arguments, and so of a WAIT, which needs no table; out of range they are no command.
+abbrev pub spanAs : List Bool → List ℕ → ℕ → Form → ℕ → ℕ → ℕ
+spanAs closed table m form first second = spanIn closed table m (roleOf (commandFor (Found.Known form 0) true first second .kind))
+
+abbrev pub waitSpan : ℕ → ℕ → ℕ
+waitSpan first second = cond (eqb (firstBad (rowOf Form.Wait) first second) 0) (first % 65536) 1
 
 -- The seconds of several entries of macro m.
 unfoldable pub spansIn : List Bool → List ℕ → ℕ → List Command → ℕ

@@ -8,7 +8,7 @@ use Rattle.wire.specs.declared.kinds.Command.{Command}
 use Rattle.wire.specs.Judge.{judgeCode}
 use Rattle.store.specs.declared.Store.{Store}
 use Rattle.store.specs.Roles.{roleOf}
-use Rattle.store.specs.Slots.{countOf, isClosed, idle, entriesOf}
+use Rattle.store.specs.Pool.{countOf, isClosed, idle, usedIn, entriesOf}
 use Rattle.store.specs.WrittenOut.{writtenOut}
 use Rattle.store.specs.Checks.{row17, row18}
 
@@ -30,26 +30,25 @@ entryHolds closed m e =
 abbrev pub entriesHold : Store → ℕ → Bool
 entriesHold s m = allOf (entryHolds (s .closed) m) (entriesOf s m)
 
--- "each closed one has 1 to 24 and a length of 1 to 600"
+-- "each closed one has 1 .. and a length of 1 to 600"
 abbrev pub closedHolds : Store → ℕ → Bool
 closedHolds s m =
     leb 1 (countOf s m)
-    && leb (countOf s m) 24
     && leb 1 (length (writtenOut s m))
     && leb (length (writtenOut s m)) 600
     && entriesHold s m
 
--- "the open macro has at most 24 entries"
-abbrev pub openHolds : Store → ℕ → Bool
-openHolds s m = leb (countOf s m) 24 && entriesHold s m
-
 -- A macro that is neither closed nor open is not judged.
 abbrev pub macroHolds : Store → ℕ → Bool
-macroHolds s m = cond (isClosed s m) (closedHolds s m) (cond (eqb (s .opened) m) (openHolds s m) true)
+macroHolds s m = cond (isClosed s m) (closedHolds s m) (cond (eqb (s .opened) m) (entriesHold s m) true)
 
 -- "a running macro is closed with 1 to its length seconds left"
 abbrev pub runningHolds : Store → Bool
 runningHolds s = idle s || (isClosed s (s .running) && leb 1 (s .left) && leb (s .left) (length (writtenOut s (s .running))))
 
+-- "Sound states are judged by the shared limit instead of 24" (02, Q-9).
+abbrev pub poolHolds : Store → Bool
+poolHolds s = leb (usedIn s) 192
+
 unfoldable pub storeSound : Store → Bool
-storeSound s = allBelow 8 (macroHolds s) && runningHolds s
+storeSound s = poolHolds s && allBelow 8 (macroHolds s) && runningHolds s

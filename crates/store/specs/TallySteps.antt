@@ -1,37 +1,42 @@
 -- Steps of the implementation: no public promise of the product (`bench`, `wire`, `frame`) needs them.
--- A tally: the store without its entries, and how long each macro is. It is all that rows 11 to 19 ask, so the commands of a list are judged and take
--- effect by it, and only a new entry's own slot is touched.
+-- A tally: the store without its pool, and how long each macro is. It is all that rows 11 to 19 ask, so the commands of a list are judged and take
+-- effect by it, and only an append touches the pool.
 use Prim.Native.Nat.{ℕ, _+_, min}
 use mathlib.Core.Path.{_≡_}
 use mathlib.Core.Logic.{_⊎_}
 use mathlib.Core.List.{List, [], _∷_}
 use mathlib.Core.Bool.{Bool, true, false, cond, not, _&&_}
 use lib.ListN.{length, getD, set, replicate}
-use lib.Dec.{leb, ltb}
+use lib.Dec.{leb, eqb}
+use Rattle.wire.specs.declared.table.Form.{Form}
+use Rattle.wire.specs.declared.table.Found.{Found}
 use Rattle.wire.specs.declared.kinds.Command.{Command}
 use Rattle.wire.specs.Codes.{Check, _when_, firstOf}
 use Rattle.store.specs.declared.Store.{Store}
 use Rattle.store.specs.declared.roles.Role.{Role}
 use Rattle.store.specs.declared.tally.Tally.{Tally}
-use Rattle.store.specs.declared.tally.Slot.{Slot}
 use Rattle.store.specs.declared.tally.Survey.{Survey}
 use Rattle.store.specs.Roles.{roleOf, isPlain}
-use Rattle.store.specs.Slots.{isClosed, slotAt}
+use Rattle.store.specs.Words.{commandFor}
+use Rattle.store.specs.Pool.{isClosed, usedOf, freeOf, takes, wordsAfter}
 use Rattle.store.specs.LookupSteps.{cappedLength, lengthsTo, spanIn}
 use Rattle.store.specs.Checks.{row16, row17, row18, row19, rowsFor}
 use Rattle.store.specs.Effects.{storeWith}
-use Rattle.store.specs.Sound.{storeSound}
+use Rattle.store.specs.Sound.{allOf, entryHolds, storeSound}
 
 abbrev pub tallyWith : List ℕ → List Bool → List ℕ → ℕ → ℕ → ℕ → Tally
 tallyWith counts closed lengths opened running left =
     record { counts = counts; closed = closed; lengths = lengths; opened = opened; running = running; left = left }
 
--- The tally of a store, and a store from its entries and its tally.
+-- The tally of a store, the one without its lengths, and a store from its pool and its tally.
 abbrev pub tallyOf : Store → Tally
 tallyOf s = tallyWith (s .counts) (s .closed) (lengthsTo s 8) (s .opened) (s .running) (s .left)
 
-abbrev pub storeOf : List Command → Tally → Store
-storeOf entries t = storeWith entries (t .counts) (t .closed) (t .opened) (t .running) (t .left)
+abbrev pub bareOf : Store → Tally
+bareOf s = tallyWith (s .counts) (s .closed) (replicate 8 0) (s .opened) (s .running) (s .left)
+
+abbrev pub storeOf : List ℕ → Tally → Store
+storeOf pool t = storeWith pool (t .counts) (t .closed) (t .opened) (t .running) (t .left)
 
 -- What a survey of a store finds.
 abbrev pub surveyOf : Store → Survey
@@ -44,39 +49,36 @@ openCount t = getD (t .counts) (t .opened) 0
 abbrev pub openLength : Tally → ℕ
 openLength t = getD (t .lengths) (t .opened) 0
 
+-- The entries in use and the free ones, and whether an append is taken.
+abbrev pub usedBy : Tally → ℕ
+usedBy t = usedOf (t .counts) (t .closed) (t .opened)
+
+abbrev pub freeBy : Tally → ℕ
+freeBy t = freeOf (t .counts) (t .closed) (t .opened)
+
+abbrev pub takesBy : Tally → Bool
+takesBy t = takes (t .counts) (t .closed) (t .opened)
+
 -- A plain command that is executed: the store neither refuses nor keeps it.
 abbrev pub passesBy : Bool → Role → Bool
 passesBy flag role = not flag && isPlain role
 
 -- Rows 11 to 19, by a tally.
 abbrev pub tallyChecks : Tally → Command → List Check
-tallyChecks t c = rowsFor (c .flag) (roleOf (c .kind)) (t .opened) (t .closed) (openCount t) (openLength t) (t .running)
+tallyChecks t c = rowsFor (c .flag) (roleOf (c .kind)) (t .opened) (t .closed) (openCount t) (openLength t) (usedBy t) (t .running)
 
 unfoldable pub tallyCode : Tally → Command → ℕ
 tallyCode t c = firstOf (tallyChecks t c)
 
 -- Rows 16 to 19 alone: the code tries them past the others.
 abbrev pub entryChecks : Bool → Role → ℕ → List Bool → ℕ → ℕ → List Check
-entryChecks flag role count closed opened running =
-    16 when row16 flag count ∷ 17 when row17 flag role opened ∷ 18 when row18 role closed ∷ 19 when row19 flag role running ∷ []
-
--- Is there a slot for one more entry of macro m?
-abbrev pub hasSlot : List ℕ → ℕ → Bool
-hasSlot counts m = ltb m 8 && not (leb 24 (getD counts m 0))
-
--- The slot for a command: the open macro's next one for an appended command. Where it has none, no append is accepted.
-abbrev pub slotFor : Tally → Command → Slot
-slotFor t c = cond (c .flag && hasSlot (t .counts) (t .opened)) (Slot.At (slotAt (t .opened) (openCount t))) Slot.Nowhere
-
--- The entries with a command in its slot.
-abbrev pub putInto : List Command → Slot → Command → List Command
-putInto entries (Slot.At i) c = set entries i c
-putInto entries Slot.Nowhere c = entries
+entryChecks flag role used closed opened running =
+    16 when row16 flag used ∷ 17 when row17 flag role opened ∷ 18 when row18 role closed ∷ 19 when row19 flag role running ∷ []
 
 -- One entry more of the open macro, which is longer by that entry's seconds.
 abbrev pub appendedBy : Tally → Role → Tally
 appendedBy t role =
-    cond (hasSlot (t .counts) (t .opened))
+    cond (takesBy t)
     (tallyWith
     (set (t .counts) (t .opened) (openCount t + 1))
     (t .closed)
@@ -96,15 +98,28 @@ executedBy t (Role.Wait n) = t
 executedBy t Role.Stop = tallyWith (t .counts) (t .closed) (t .lengths) (t .opened) 255 0
 executedBy t Role.Clear = tallyWith (replicate 8 0) (replicate 8 false) (t .lengths) 255 (t .running) (t .left)
 
--- The tally and the entries after an accepted command.
+-- The tally and the pool after an accepted command.
 unfoldable pub tallyAfter : Tally → Command → Tally
 tallyAfter t c = cond (c .flag) (appendedBy t (roleOf (c .kind))) (executedBy t (roleOf (c .kind)))
 
-abbrev pub entriesAfter : List Command → Tally → Command → List Command
-entriesAfter entries t c = putInto entries (slotFor t c) c
+abbrev pub poolAfter : List ℕ → Tally → Command → List ℕ
+poolAfter pool t c = cond (c .flag) (wordsAfter pool (t .counts) (t .closed) (t .opened) c) pool
+
+-- The rules of macro m: on an entry with flag 1 by its form and arguments, on its entries, and by a tally that has the lengths.
+abbrev pub formHolds : List Bool → ℕ → Form → ℕ → ℕ → Bool
+formHolds closed m form first second = entryHolds closed m (commandFor (Found.Known form 0) true first second)
+
+abbrev pub entriesBy : List Bool → ℕ → List Command → Bool
+entriesBy closed m es = allOf (entryHolds closed m) es
+
+abbrev pub macroBy : Tally → ℕ → List Command → Bool
+macroBy t m es =
+    cond (getD (t .closed) m false)
+    (leb 1 (getD (t .counts) m 0) && leb 1 (getD (t .lengths) m 0) && leb (getD (t .lengths) m 0) 600 && entriesBy (t .closed) m es)
+    (cond (eqb (t .opened) m) (entriesBy (t .closed) m es) true)
 
 -- A tally that is true of a store: its numbers and marks, and the length of each macro that is closed or open.
 pub record Tallied (s : Store) (t : Tally) : Type 0 where
-  pub same : storeOf (s .entries) t ≡ s
+  pub same : storeOf (s .pool) t ≡ s
   pub eight : length (t .lengths) ≡ 8
   pub lengths : (m : ℕ) → (isClosed s m ≡ true) ⊎ (m ≡ s .opened) → getD (t .lengths) m 0 ≡ cappedLength s m

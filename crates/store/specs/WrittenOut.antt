@@ -10,7 +10,7 @@ use Rattle.wire.specs.declared.kinds.Command.{Command}
 use Rattle.store.specs.declared.Store.{Store}
 use Rattle.store.specs.declared.roles.Role.{Role}
 use Rattle.store.specs.Roles.{roleOf}
-use Rattle.store.specs.Slots.{isClosed, entriesOf}
+use Rattle.store.specs.Pool.{isClosed, entriesOf}
 
 -- One entry, RUNs replaced: `look` gives the list of a target.
 abbrev pub expandAs : (ℕ → List Kind) → Kind → Role → List Kind

@@ -6,13 +6,13 @@ ghost use Rattle.store.specs.TallySteps.{entryChecks};
 use super::ENTRIES;
 use super::LONGEST;
 use super::NONE;
+use super::arrays::closed_at;
 use super::roles::Role;
 use super::roles::is_clear;
 use super::roles::is_close;
 use super::roles::is_open;
 use super::roles::is_run;
 use super::roles::number_of;
-use super::slots::closed_at;
 
 pub enum Denial {
     NoneOpen,
@@ -20,7 +20,7 @@ pub enum Denial {
     AlreadyClosed,
     NoEntries,
     TooLong,
-    NoSlot,
+    NoneFree,
     NotBelow,
     NotClosed,
     Running,
@@ -41,7 +41,7 @@ pub fn code_of(denial: Denial) -> u8
         Denial::AlreadyClosed => 13,
         Denial::NoEntries => 14,
         Denial::TooLong => 15,
-        Denial::NoSlot => 16,
+        Denial::NoneFree => 16,
         Denial::NotBelow => 17,
         Denial::NotClosed => 18,
         Denial::Running => 19,
@@ -138,16 +138,16 @@ fn starts_busy(flag: bool, role: Role, running: u8) -> bool
 pub(crate) fn permits_entry(
     flag: bool,
     role: Role,
-    count: u8,
+    used: usize,
     closed: [bool; 8],
     opened: u8,
     running: u8,
 ) -> Permit
-    ensures { λ r. ⌜ toldPermit r ≡ firstOf (entryChecks flag role count closed opened running) ⌝ }
+    ensures { λ r. ⌜ toldPermit r ≡ firstOf (entryChecks flag role used closed opened running) ⌝ }
 {
     if flag {
-        if ENTRIES <= count as usize {
-            return Permit::Denied(Denial::NoSlot);
+        if ENTRIES <= used {
+            return Permit::Denied(Denial::NoneFree);
         }
     }
     if runs_upward(flag, role, opened) {

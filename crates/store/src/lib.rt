@@ -3,15 +3,16 @@
 ghost use mathlib.Core.Path.{_≡_};
 ghost use mathlib.Core.Bool.{cond};
 ghost use lib.Dec.{eqb};
-ghost use Rattle.store.specs.Slots.{marksOf};
-ghost use Rattle.store.specs.Effects.{freshSlots, freshStore};
-ghost use Rattle.store.specs.TallySteps.{storeOf, surveyOf};
+ghost use Rattle.store.specs.Pool.{marksOf};
+ghost use Rattle.store.specs.Effects.{freshStore};
+ghost use Rattle.store.specs.TallySteps.{storeOf, bareOf, surveyOf};
 ghost use Rattle.store.specs.SecondSteps.{stepWith, stepOf, steppedOf};
 
+mod arrays;
 mod checks;
 mod lookup;
+mod pool;
 mod roles;
-mod slots;
 mod soundness;
 mod tally;
 
@@ -20,16 +21,14 @@ pub use checks::Permit;
 pub use checks::code_of;
 pub use lookup::Handed;
 pub use roles::Role;
-pub use tally::Slot;
 pub use tally::Survey;
 pub use tally::Tally;
-use wire::Command;
-use wire::Kind;
+pub use tally::keep;
 
-// How many macros there are, and how many entries each can hold.
+// How many macros there are, and how many entries they share.
 pub const MACROS: usize = 8;
 
-pub const ENTRIES: usize = 24;
+pub const ENTRIES: usize = 192;
 
 // The number that stands for no macro.
 const NONE: u8 = 255;
@@ -38,9 +37,9 @@ const LONGEST: u16 = 600;
 
 const TOO_LONG: u16 = 601;
 
-// Macro m has `counts[m]` entries, in the slots from m * ENTRIES on.
+// An open or a closed macro m has `counts[m]` entries. All entries lie in one pool, three words to each (pool.rt).
 pub struct Store {
-    pub entries: [Command; 192],
+    pub pool: [u32; 576],
     pub counts: [u8; 8],
     pub closed: [bool; 8],
     pub opened: u8,
@@ -74,23 +73,12 @@ fn still_running(running: u8, left: u16) -> u8
     if left == 0 { NONE } else { running }
 }
 
-fn empty_slots() -> [Command; 192]
-    ensures { λ r. ⌜ r ≡ freshSlots ⌝ }
-{
-    let empty = Command {
-        flag: false,
-        kind: Kind::ImgPwr(0),
-    };
-    [empty; 192]
-}
-
 impl Store {
     pub fn fresh() -> Store
         ensures { λ r. ⌜ r ≡ freshStore ⌝ }
     {
-        let entries = empty_slots();
         Store {
-            entries,
+            pool: [0; 576],
             counts: [0; 8],
             closed: [false; 8],
             opened: NONE,
@@ -99,14 +87,14 @@ impl Store {
         }
     }
 
-    // A store from its entries and its tally.
-    pub fn of_parts(entries: [Command; 192], tally: Tally) -> Store
-        ensures { λ r. ⌜ r ≡ storeOf entries tally ⌝ }
+    // A store from its pool and its tally.
+    pub fn of_parts(pool: [u32; 576], tally: Tally) -> Store
+        ensures { λ r. ⌜ r ≡ storeOf pool tally ⌝ }
     {
         let counts = tally.counts;
         let closed = tally.closed;
         Store {
-            entries,
+            pool,
             counts,
             closed,
             opened: tally.opened,
@@ -115,49 +103,57 @@ impl Store {
         }
     }
 
-    // The store's part of a sound state, and its tally; the lengths are worked out once for both.
-    pub fn survey(self) -> Survey
-        ensures { λ r. ⌜ r ≡ surveyOf self ⌝ }
+    // The store's numbers and marks, as a tally whose lengths are not worked out.
+    pub fn bare(self) -> Tally
+        ensures { λ r. ⌜ r ≡ bareOf self ⌝ }
     {
         let counts = self.counts;
         let closed = self.closed;
-        let lengths = lookup::lengths_below(self, MACROS as u8);
-        let tally = Tally {
+        Tally {
             counts,
             closed,
-            lengths,
+            lengths: [0; 8],
             opened: self.opened,
             running: self.running,
             left: self.left,
-        };
-        let sound = soundness::holds(self, lengths);
-        Survey { sound, tally }
-    }
-
-    // The second of the two things that a second does: the running macro's next entry is handed over, and one second less is left. A store that is
-    // not sound stays.
-    pub fn second(self) -> Step
-        ensures { λ r. ⌜ stepOf r ≡ steppedOf self ⌝ }
-    {
-        let running = self.running;
-        let left = self.left;
-        let lengths = lookup::lengths_below(self, MACROS as u8);
-        if !soundness::holds(self, lengths) {
-            return step_with(false, running, left, Handed::Nothing);
         }
-        if running == NONE {
-            return step_with(true, running, left, Handed::Nothing);
-        }
-        let handed = lookup::next_in(self, running, left, lengths);
-        let left = lookup::less(left, 1);
-        step_with(true, still_running(running, left), left, handed)
     }
+}
 
-    // The closed macros as a byte, bit m for macro m.
-    pub fn marks(self) -> u8
-        ensures { λ r. ⌜ r ≡ marksOf (self .closed) ⌝ }
-    {
-        let closed = self.closed;
-        slots::byte_of(closed)
+// The store's part of a sound state, and its tally; the lengths are worked out once for both. The lengths that come with the tally are not asked.
+pub fn survey(pool: &[u32; 576], tally: Tally) -> Survey
+    ensures { λ r. ⌜ r ≡ surveyOf (storeOf (now (pool .entry)) tally) ⌝ }
+{
+    let measured = lookup::lengths_below(pool, tally, MACROS as u8);
+    let lengths = measured.lengths;
+    let tally = Tally { lengths, ..tally };
+    let sound = soundness::holds(pool, tally, measured.end);
+    Survey { sound, tally }
+}
+
+// The second of the two things that a second does: the running macro's next entry is handed over, and one second less is left. A store that is
+// not sound stays.
+pub fn second(pool: &[u32; 576], tally: Tally) -> Step
+    ensures { λ r. ⌜ stepOf r ≡ steppedOf (storeOf (now (pool .entry)) tally) ⌝ }
+{
+    let running = tally.running;
+    let left = tally.left;
+    let survey = survey(pool, tally);
+    if !survey.sound {
+        return step_with(false, running, left, Handed::Nothing);
     }
+    if running == NONE {
+        return step_with(true, running, left, Handed::Nothing);
+    }
+    let tally = survey.tally;
+    let handed = lookup::next_in(pool, tally, running, left);
+    let left = lookup::less(left, 1);
+    step_with(true, still_running(running, left), left, handed)
+}
+
+// The closed macros as a byte, bit m for macro m.
+pub fn marks_of(closed: [bool; 8]) -> u8
+    ensures { λ r. ⌜ r ≡ marksOf closed ⌝ }
+{
+    arrays::byte_of(closed)
 }

@@ -1,22 +1,31 @@
 // The written-out list of a macro without writing it out: its length by a table over the macros, and the entry of a second by that table.
-// The macro number falls at each call, so eight calls visit at most 192 entries, on every store.
-ghost use Prim.Native.Nat.{_+_, _-_, _<_, _≤_, min};
+// The macro number falls at each call, and the pool's words are only lent, so eight calls visit at most 192 entries, on every store.
+ghost use Prim.Native.Nat.{_+_, _-_, _≤_, min};
 ghost use mathlib.Core.Path.{_≡_};
 ghost use mathlib.Core.List.{[]};
 ghost use lib.ListN.{length, getD};
-ghost use Rattle.store.specs.Slots.{entriesOf};
+ghost use Rattle.store.specs.Roles.{roleOf};
+ghost use Rattle.store.specs.Pool.{between};
+ghost use Rattle.store.specs.PoolSteps.{commandIn};
 ghost use Rattle.store.specs.WrittenOut.{writtenOut};
-ghost use Rattle.store.specs.LookupSteps.{lengthsTo, Asked, Due, runSpan, spanIn, spansIn, coverAs, coverIn};
-ghost use Rattle.store.specs.Effects.{handedOf};
-use super::ENTRIES;
+ghost use Rattle.store.specs.LookupSteps.{measuredTo, Asked, Due, runSpan, spanIn, spanAs, waitSpan, spansIn, coverAs, coverIn};
+ghost use Rattle.store.specs.TallySteps.{storeOf};
+ghost use Rattle.store.specs.Effects.{entryDue, handedOf};
 use super::MACROS;
-use super::Store;
 use super::TOO_LONG;
+use super::arrays::closed_at;
+use super::pool::Entry;
+use super::pool::command_of;
+use super::pool::end_of;
+use super::pool::entry_at;
+use super::pool::found_in;
+use super::pool::size_of;
+use super::pool::start_of;
 use super::roles::Role;
 use super::roles::role_of;
-use super::slots::closed_at;
-use super::slots::count_at;
-use super::slots::slot_of;
+use super::tally::Tally;
+use wire::Form;
+use wire::Found;
 use wire::Kind;
 
 // What a second hands over.
@@ -30,6 +39,12 @@ enum Covering {
     Nothing,
     Entry(Kind),
     Within(u8, u16),
+}
+
+// The lengths of the macros below a number, and where the next one starts in the pool.
+pub(crate) struct Measured {
+    pub lengths: [u16; 8],
+    pub end: usize,
 }
 
 // A sum of seconds, told up to TOO_LONG.
@@ -50,14 +65,6 @@ pub(crate) fn less(a: u16, b: u16) -> u16
     ensures { λ r. ⌜ r ≡ a - b ⌝ }
 {
     if a < b { 0 } else { a - b }
-}
-
-// How many entries of macro m are in its slots.
-pub(crate) fn filled(counts: [u8; 8], m: u8) -> usize
-    ensures { λ r. ⌜ r ≡ min 24 (getD counts m 0) ⌝ }
-{
-    let count = count_at(counts, m) as usize;
-    if ENTRIES < count { ENTRIES } else { count }
 }
 
 // What a table of lengths tells of macro m; none for a number that no macro has.
@@ -95,38 +102,107 @@ pub(crate) fn span_in(role: Role, m: u8, closed: [bool; 8], table: [u16; 8]) -> 
     }
 }
 
-// The length of macro m by the lengths of those below it.
-fn length_by(store: Store, m: u8, table: [u16; 8]) -> u16
-    requires { ⌜ m < 8 ⌝ }
-    ensures { λ r. ⌜ r ≡ min 601 (spansIn (store .closed) table m (entriesOf store m)) ⌝ }
+// The seconds of a RUN in macro m by its two arguments, of which a range test leaves eight bits and no more. Out of range they are no command, which is
+// a second long as most commands are.
+fn run_seconds(first: u32, second: u32, m: u8, closed: [bool; 8], table: [u16; 8]) -> u16
+    ensures { λ r. ⌜ r ≡ spanAs closed table m Form.Run first second ⌝ }
 {
-    let closed = store.closed;
-    let counts = store.counts;
-    let count = filled(counts, m);
-    let at = m as usize;
+    if wire::first_bad(wire::row_of(Form::Run), first, second) == 0 {
+        run_span((first % 256) as u8, m, closed, table)
+    } else {
+        1
+    }
+}
+
+// The same for a WAIT, whose seconds have 16 bits.
+fn wait_seconds(first: u32, second: u32) -> u16
+    ensures { λ r. ⌜ r ≡ waitSpan first second ⌝ }
+{
+    if wire::first_bad(wire::row_of(Form::Wait), first, second) == 0 {
+        (first % 65536) as u16
+    } else {
+        1
+    }
+}
+
+// The seconds of an entry of macro m whose form is known.
+fn span_as(form: Form, first: u32, second: u32, m: u8, closed: [bool; 8], table: [u16; 8]) -> u16
+    ensures { λ r. ⌜ r ≡ spanAs closed table m form first second ⌝ }
+{
+    match form {
+        Form::ImgPwr => 1,
+        Form::ImgRegion => 1,
+        Form::ImgTrack => 1,
+        Form::TrkAlg => 1,
+        Form::TrkLoop => 1,
+        Form::ImgImage => 1,
+        Form::TrkGoal => 1,
+        Form::TlmFlush => 1,
+        Form::FlushAuto => 1,
+        Form::Open => 1,
+        Form::Close => 1,
+        Form::Run => run_seconds(first, second, m, closed, table),
+        Form::Wait => wait_seconds(first, second),
+        Form::Stop => 1,
+        Form::Clear => 1,
+    }
+}
+
+// The seconds of an entry of macro m.
+fn span_of(entry: Entry, m: u8, closed: [bool; 8], table: [u16; 8]) -> u16
+    ensures { λ r. ⌜ r ≡ spanIn closed table m (roleOf (commandIn entry .kind)) ⌝ }
+{
+    match found_in(entry.head) {
+        Found::Unknown => 1,
+        Found::Known(form, _) => span_as(form, entry.first, entry.second, m, closed, table),
+    }
+}
+
+// The seconds of the entries of macro m, which start here and are so many, by the lengths of the macros below it.
+fn length_by(
+    words: &[u32],
+    start: usize,
+    size: usize,
+    m: u8,
+    closed: [bool; 8],
+    table: [u16; 8],
+) -> u16
+    requires { ⌜ (length (now words) ≡ 576) × (size ≤ 255) ⌝ }
+    ensures { λ r. ⌜ r ≡ min 601 (spansIn closed table m (between (now (words .entry)) start size)) ⌝ }
+{
+    let end = end_of(start, size);
     let mut sum: u16 = 0;
-    let mut i = 0;
-    while i < count {
-        let entry = store.entries[slot_of(at, i)];
-        let kind = entry.kind;
-        sum = added(sum, span_in(role_of(kind), m, closed, table));
+    let mut i = start;
+    while i < end {
+        let entry = entry_at(words, i);
+        sum = added(sum, span_of(entry, m, closed, table));
         i += 1;
     }
     sum
 }
 
 // The lengths of the macros below n, each by those below it.
-pub(crate) fn lengths_below(store: Store, n: u8) -> [u16; 8]
-    requires { ⌜ n ≤ 8 ⌝ }
-    ensures { λ r. ⌜ r ≡ lengthsTo store n ⌝ }
+pub(crate) fn lengths_below(words: &[u32], tally: Tally, n: u8) -> Measured
+    requires { ⌜ (length (now words) ≡ 576) × (n ≤ 8) ⌝ }
+    ensures { λ r. ⌜ r ≡ measuredTo (storeOf (now (words .entry)) tally) n ⌝ }
 {
     if n == 0 {
-        return [0; 8];
+        return Measured {
+            lengths: [0; 8],
+            end: 0,
+        };
     }
     let m = n - 1;
-    let mut table = lengths_below(store, m);
-    table[m as usize] = length_by(store, m, table);
-    table
+    let counts = tally.counts;
+    let closed = tally.closed;
+    let below = lengths_below(words, tally, m);
+    let size = size_of(counts, closed, tally.opened, m);
+    let mut lengths = below.lengths;
+    lengths[m as usize] = length_by(words, below.end, size, m, closed, lengths);
+    Measured {
+        lengths,
+        end: below.end + size,
+    }
 }
 
 // What covers second k, from 0, of an entry.
@@ -144,24 +220,29 @@ fn cover_of(role: Role, kind: Kind, k: u16) -> Covering
     }
 }
 
-// What covers second k, from 0, of macro m.
-fn cover_in(store: Store, m: u8, k: u16, table: [u16; 8]) -> Covering
-    requires { ⌜ m < 8 ⌝ }
-    ensures { λ r. ⌜ r ≡ coverIn (store .closed) table m (entriesOf store m) k ⌝ }
+// What covers second k, from 0, of the entries of macro m, which start here and are so many.
+fn cover_in(
+    words: &[u32],
+    start: usize,
+    size: usize,
+    m: u8,
+    k: u16,
+    closed: [bool; 8],
+    table: [u16; 8],
+) -> Covering
+    requires { ⌜ (length (now words) ≡ 576) × (size ≤ 255) ⌝ }
+    ensures { λ r. ⌜ r ≡ coverIn closed table m (between (now (words .entry)) start size) k ⌝ }
 {
-    let closed = store.closed;
-    let counts = store.counts;
-    let count = filled(counts, m);
-    let at = m as usize;
+    let end = end_of(start, size);
     let mut rest = k;
-    let mut i = 0;
-    while i < count {
-        let entry = store.entries[slot_of(at, i)];
-        let kind = entry.kind;
-        let role = role_of(kind);
-        let span = span_in(role, m, closed, table);
+    let mut i = start;
+    while i < end {
+        let entry = entry_at(words, i);
+        let span = span_of(entry, m, closed, table);
         if rest < span {
-            return cover_of(role, kind, rest);
+            let command = command_of(entry);
+            let kind = command.kind;
+            return cover_of(role_of(kind), kind, rest);
         }
         rest = rest - span;
         i += 1;
@@ -169,23 +250,31 @@ fn cover_in(store: Store, m: u8, k: u16, table: [u16; 8]) -> Covering
     Covering::Nothing
 }
 
-// What second k, from 0, of macro m hands over; the macro number falls at each RUN on the way.
-fn entry_in(store: Store, m: u8, k: u16, table: [u16; 8]) -> Handed
-    requires { ⌜ Asked store m k table ⌝ }
-    ensures { λ r. ⌜ handedOf r ≡ getD (writtenOut store m) k [] ⌝ }
+// What second k, from 0, of macro m hands over, by a tally that has the lengths; the macro number falls at each RUN on the way.
+fn entry_in(words: &[u32], tally: Tally, m: u8, k: u16) -> Handed
+    requires { ⌜ length (now words) ≡ 576 ⌝ }
+    requires { ⌜ Asked (storeOf (now words) tally) m k (tally .lengths) ⌝ }
+    ensures { λ r. ⌜ handedOf r ≡ getD (writtenOut (storeOf (now (words .entry)) tally) m) k [] ⌝ }
 {
-    match cover_in(store, m, k, table) {
+    let counts = tally.counts;
+    let closed = tally.closed;
+    let lengths = tally.lengths;
+    let start = start_of(counts, closed, tally.opened, m);
+    let size = size_of(counts, closed, tally.opened, m);
+    match cover_in(words, start, size, m, k, closed, lengths) {
         Covering::Nothing => Handed::Nothing,
         Covering::Entry(kind) => Handed::Over(kind),
-        Covering::Within(target, rest) => entry_in(store, target, rest, table),
+        Covering::Within(target, rest) => entry_in(words, tally, target, rest),
     }
 }
 
-// The entry of macro m's written-out list that is due when so many of its seconds are left, by the table of all lengths.
-pub(crate) fn next_in(store: Store, m: u8, left: u16, table: [u16; 8]) -> Handed
-    requires { ⌜ Due store m table ⌝ }
-    ensures { λ r. ⌜ handedOf r ≡ getD (writtenOut store m) (length (writtenOut store m) - left) [] ⌝ }
+// The entry of macro m's written-out list that is due when so many of its seconds are left, by a tally that has the lengths.
+pub(crate) fn next_in(words: &[u32], tally: Tally, m: u8, left: u16) -> Handed
+    requires { ⌜ length (now words) ≡ 576 ⌝ }
+    requires { ⌜ Due (storeOf (now words) tally) m (tally .lengths) ⌝ }
+    ensures { λ r. ⌜ handedOf r ≡ entryDue (storeOf (now (words .entry)) tally) m left ⌝ }
 {
-    let length = length_at(table, m);
-    entry_in(store, m, less(length, left), table)
+    let lengths = tally.lengths;
+    let length = length_at(lengths, m);
+    entry_in(words, tally, m, less(length, left))
 }

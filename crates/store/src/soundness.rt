@@ -1,72 +1,106 @@
-// The store's part of a sound state: every macro against its rules, then the running one.
+// The store's part of a sound state: the entries in use, then every macro against its rules, then the running one.
 // Each entry is visited once; the table of lengths comes from the caller.
-ghost use Prim.Native.Nat.{_<_};
+ghost use Prim.Native.Nat.{_≤_};
 ghost use mathlib.Core.Path.{_≡_};
-ghost use mathlib.Core.Bool.{false, _&&_, _||_};
-ghost use lib.ListN.{getD};
+ghost use mathlib.Core.Bool.{true, false, _&&_, _||_};
+ghost use lib.ListN.{length, getD};
 ghost use lib.Dec.{leb, eqb};
-ghost use Rattle.wire.specs.Judge.{judgeCode};
-ghost use Rattle.store.specs.LookupSteps.{cappedLength, lengthsTo};
-ghost use Rattle.store.specs.Sound.{entryHolds, entriesHold, macroHolds, storeSound};
+ghost use Rattle.wire.specs.Codes.{firstOf};
+ghost use Rattle.wire.specs.Judge.{rowChecks};
+ghost use Rattle.store.specs.Pool.{between};
+ghost use Rattle.store.specs.Sound.{entryHolds, storeSound};
+ghost use Rattle.store.specs.PoolSteps.{commandIn};
+ghost use Rattle.store.specs.LookupSteps.{lengthsTo};
+ghost use Rattle.store.specs.TallySteps.{storeOf, usedBy, formHolds, entriesBy, macroBy};
 use super::ENTRIES;
 use super::LONGEST;
 use super::MACROS;
 use super::NONE;
-use super::Store;
-use super::checks::runs_unclosed;
-use super::checks::runs_upward;
-use super::lookup::filled;
+use super::arrays::closed_at;
+use super::arrays::count_at;
 use super::lookup::length_at;
-use super::roles::role_of;
-use super::slots::closed_at;
-use super::slots::count_at;
-use super::slots::slot_of;
-use wire::Command;
+use super::pool::Entry;
+use super::pool::end_of;
+use super::pool::entry_at;
+use super::pool::found_in;
+use super::pool::size_of;
+use super::tally::Tally;
+use wire::Form;
+use wire::Found;
 use wire::Judged;
-use wire::judge;
+use wire::Row;
 
-// Does a decoded command pass 8 to 10?
-fn passes(entry: Command) -> bool
-    ensures { λ r. ⌜ r ≡ eqb (judgeCode entry) 0 ⌝ }
+// Do a flag of 1 and these two numbers pass 8 to 10, by a row of the table?
+fn passes(row: Row, first: u32, second: u32) -> bool
+    ensures { λ r. ⌜ r ≡ eqb (firstOf (rowChecks row true first second)) 0 ⌝ }
 {
-    match judge(entry) {
+    match wire::judge_by(row, true, first, second) {
         Judged::Allowed => true,
         Judged::Refused(_) => false,
     }
 }
 
-// An entry of macro m is a flag-1 command that passes 8 to 10 and, for a RUN, 17 and 18.
-fn entry_holds(entry: Command, m: u8, closed: [bool; 8]) -> bool
-    ensures { λ r. ⌜ r ≡ entryHolds closed m entry ⌝ }
+// A RUN in macro m passes 8 and, its target being a closed macro with a smaller number, 17 and 18.
+fn run_holds(first: u32, second: u32, m: u8, closed: [bool; 8]) -> bool
+    ensures { λ r. ⌜ r ≡ formHolds closed m Form.Run first second ⌝ }
 {
-    let flag = entry.flag;
-    if !flag {
+    if !passes(wire::row_of(Form::Run), first, second) {
         return false;
     }
-    if !passes(entry) {
-        return false;
+    // In range, so the eight bits are all of it.
+    let target = (first % 256) as u8;
+    if target < m {
+        closed_at(closed, target)
+    } else {
+        false
     }
-    let kind = entry.kind;
-    let role = role_of(kind);
-    if runs_upward(flag, role, m) {
-        return false;
-    }
-    !runs_unclosed(role, closed)
 }
 
-// Do all entries of macro m hold?
-fn entries_hold(store: Store, m: u8) -> bool
-    requires { ⌜ m < 8 ⌝ }
-    ensures { λ r. ⌜ r ≡ entriesHold store m ⌝ }
+// An entry of macro m with flag 1, whose form is known, passes 8 to 10 and, for a RUN, 17 and 18. In each arm the row is a constant.
+fn form_holds(form: Form, first: u32, second: u32, m: u8, closed: [bool; 8]) -> bool
+    ensures { λ r. ⌜ r ≡ formHolds closed m form first second ⌝ }
 {
-    let closed = store.closed;
-    let counts = store.counts;
-    let count = filled(counts, m);
-    let at = m as usize;
-    let mut i = 0;
-    while i < count {
-        let entry = store.entries[slot_of(at, i)];
-        if !entry_holds(entry, m, closed) {
+    match form {
+        Form::ImgPwr => passes(wire::row_of(Form::ImgPwr), first, second),
+        Form::ImgRegion => passes(wire::row_of(Form::ImgRegion), first, second),
+        Form::ImgTrack => passes(wire::row_of(Form::ImgTrack), first, second),
+        Form::TrkAlg => passes(wire::row_of(Form::TrkAlg), first, second),
+        Form::TrkLoop => passes(wire::row_of(Form::TrkLoop), first, second),
+        Form::ImgImage => passes(wire::row_of(Form::ImgImage), first, second),
+        Form::TrkGoal => passes(wire::row_of(Form::TrkGoal), first, second),
+        Form::TlmFlush => passes(wire::row_of(Form::TlmFlush), first, second),
+        Form::FlushAuto => passes(wire::row_of(Form::FlushAuto), first, second),
+        Form::Open => passes(wire::row_of(Form::Open), first, second),
+        Form::Close => passes(wire::row_of(Form::Close), first, second),
+        Form::Run => run_holds(first, second, m, closed),
+        Form::Wait => passes(wire::row_of(Form::Wait), first, second),
+        Form::Stop => passes(wire::row_of(Form::Stop), first, second),
+        Form::Clear => passes(wire::row_of(Form::Clear), first, second),
+    }
+}
+
+// An entry of macro m is a flag-1 command that passes 8 to 10 and, for a RUN, 17 and 18.
+fn entry_holds(entry: Entry, m: u8, closed: [bool; 8]) -> bool
+    ensures { λ r. ⌜ r ≡ entryHolds closed m (commandIn entry) ⌝ }
+{
+    if entry.head % 2 == 0 {
+        return false;
+    }
+    match found_in(entry.head) {
+        Found::Unknown => false,
+        Found::Known(form, _) => form_holds(form, entry.first, entry.second, m, closed),
+    }
+}
+
+// Do all entries of macro m hold, which start here and are so many?
+fn entries_hold(words: &[u32], start: usize, size: usize, m: u8, closed: [bool; 8]) -> bool
+    requires { ⌜ (length (now words) ≡ 576) × (size ≤ 255) ⌝ }
+    ensures { λ r. ⌜ r ≡ entriesBy closed m (between (now (words .entry)) start size) ⌝ }
+{
+    let end = end_of(start, size);
+    let mut i = start;
+    while i < end {
+        if !entry_holds(entry_at(words, i), m, closed) {
             return false;
         }
         i += 1;
@@ -74,14 +108,11 @@ fn entries_hold(store: Store, m: u8) -> bool
     true
 }
 
-// A closed macro has 1 to ENTRIES entries and runs 1 to LONGEST seconds.
+// A closed macro has an entry at least, and runs 1 to LONGEST seconds.
 fn closed_fits(count: u8, length: u16) -> bool
-    ensures { λ r. ⌜ r ≡ (leb 1 count && leb count 24 && leb 1 length && leb length 600) ⌝ }
+    ensures { λ r. ⌜ r ≡ (leb 1 count && leb 1 length && leb length 600) ⌝ }
 {
     if count < 1 {
-        return false;
-    }
-    if ENTRIES < (count as usize) {
         return false;
     }
     if length < 1 {
@@ -90,25 +121,22 @@ fn closed_fits(count: u8, length: u16) -> bool
     length <= LONGEST
 }
 
-// Does macro m hold? One that is neither closed nor open is not judged.
-fn macro_holds(store: Store, m: u8, table: [u16; 8]) -> bool
-    requires { ⌜ (m < 8) × (getD table m 0 ≡ cappedLength store m) ⌝ }
-    ensures { λ r. ⌜ r ≡ macroHolds store m ⌝ }
+// Does macro m hold, whose entries start here, by a tally that has the lengths? One that is neither closed nor open is not judged.
+fn macro_holds(words: &[u32], tally: Tally, start: usize, size: usize, m: u8) -> bool
+    requires { ⌜ (length (now words) ≡ 576) × (size ≤ 255) ⌝ }
+    ensures { λ r. ⌜ r ≡ macroBy tally m (between (now (words .entry)) start size) ⌝ }
 {
-    let counts = store.counts;
-    let closed = store.closed;
-    let count = count_at(counts, m);
+    let counts = tally.counts;
+    let closed = tally.closed;
+    let lengths = tally.lengths;
     if closed_at(closed, m) {
-        if closed_fits(count, length_at(table, m)) {
-            return entries_hold(store, m);
+        if closed_fits(count_at(counts, m), length_at(lengths, m)) {
+            return entries_hold(words, start, size, m, closed);
         }
         return false;
     }
-    if store.opened == m {
-        if ENTRIES < (count as usize) {
-            return false;
-        }
-        return entries_hold(store, m);
+    if tally.opened == m {
+        return entries_hold(words, start, size, m, closed);
     }
     true
 }
@@ -129,18 +157,27 @@ fn running_holds(running: u8, left: u16, closed: [bool; 8], table: [u16; 8]) -> 
     left <= length_at(table, running)
 }
 
-// The whole store, by the table of its lengths.
-pub(crate) fn holds(store: Store, table: [u16; 8]) -> bool
-    requires { ⌜ table ≡ lengthsTo store 8 ⌝ }
-    ensures { λ r. ⌜ r ≡ storeSound store ⌝ }
+// The whole store, by a tally that has the lengths, and its entries in use.
+pub(crate) fn holds(words: &[u32], tally: Tally, used: usize) -> bool
+    requires { ⌜ length (now words) ≡ 576 ⌝ }
+    requires { ⌜ (tally .lengths ≡ lengthsTo (storeOf (now words) tally) 8) × (used ≡ usedBy tally) ⌝ }
+    ensures { λ r. ⌜ r ≡ storeSound (storeOf (now (words .entry)) tally) ⌝ }
 {
-    let closed = store.closed;
+    if ENTRIES < used {
+        return false;
+    }
+    let counts = tally.counts;
+    let closed = tally.closed;
+    let lengths = tally.lengths;
+    let mut start = 0;
     let mut m: u8 = 0;
     while (m as usize) < MACROS {
-        if !macro_holds(store, m, table) {
+        let size = size_of(counts, closed, tally.opened, m);
+        if !macro_holds(words, tally, start, size, m) {
             return false;
         }
+        start += size;
         m += 1;
     }
-    running_holds(store.running, store.left, closed, table)
+    running_holds(tally.running, tally.left, closed, lengths)
 }

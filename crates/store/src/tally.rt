@@ -1,19 +1,22 @@
-// A tally: the store without its entries, and how long each macro is. It is all that codes 11 to 19 ask, so a run of lists judges and carries out its
-// commands by a tally, and copies no slots.
+// A tally: the store without its pool, and how long each macro is. It is all that codes 11 to 19 ask, so a run of lists judges and carries out its
+// commands by a tally, and the pool stays where it is.
 ghost use mathlib.Core.Path.{_≡_};
 ghost use Rattle.store.specs.Checks.{toldPermit};
-ghost use Rattle.store.specs.TallySteps.{passesBy, tallyCode, slotFor, appendedBy, executedBy, tallyAfter};
+ghost use Rattle.store.specs.TallySteps.{usedBy, freeBy, takesBy, passesBy, tallyCode, poolAfter, appendedBy, executedBy, tallyAfter};
+use super::ENTRIES;
+use super::MACROS;
 use super::NONE;
+use super::arrays;
 use super::checks;
 use super::checks::Denial;
 use super::checks::Permit;
 use super::lookup::added;
 use super::lookup::length_at;
 use super::lookup::span_in;
+use super::pool;
 use super::roles::Role;
 use super::roles::is_plain;
 use super::roles::role_of;
-use super::slots;
 use wire::Command;
 
 pub struct Tally {
@@ -23,12 +26,6 @@ pub struct Tally {
     pub opened: u8,
     pub running: u8,
     pub left: u16,
-}
-
-// Where an accepted command is kept: an appended one in a slot, any other nowhere.
-pub enum Slot {
-    At(usize),
-    Nowhere,
 }
 
 // What a survey of a store finds: whether it is sound, and its tally.
@@ -59,7 +56,7 @@ impl Tally {
         let closed = self.closed;
         let lengths = self.lengths;
         let opened = self.opened;
-        let count = slots::count_at(counts, opened);
+        let count = arrays::count_at(counts, opened);
         if checks::lacks_open(flag, role, opened) {
             return Permit::Denied(Denial::NoneOpen);
         }
@@ -75,23 +72,38 @@ impl Tally {
         if checks::closes_too_long(role, length_at(lengths, opened)) {
             return Permit::Denied(Denial::TooLong);
         }
-        checks::permits_entry(flag, role, count, closed, opened, self.running)
+        checks::permits_entry(flag, role, self.used(), closed, opened, self.running)
     }
 
-    // The slot for a command: the open macro's next one for an appended command, where it has one.
-    pub fn slot_for(self, command: Command) -> Slot
-        ensures { λ r. ⌜ r ≡ slotFor self command ⌝ }
+    // The entries in use.
+    fn used(self) -> usize
+        ensures { λ r. ⌜ r ≡ usedBy self ⌝ }
     {
-        if !command.flag {
-            return Slot::Nowhere;
-        }
         let counts = self.counts;
-        let opened = self.opened;
-        if slots::has_slot(counts, opened) {
-            let count = slots::count_at(counts, opened);
-            Slot::At(slots::slot_of(opened as usize, count as usize))
+        let closed = self.closed;
+        pool::used(counts, closed, self.opened)
+    }
+
+    // The entries that are free: the appends that an open macro would still take.
+    pub fn free(self) -> u8
+        ensures { λ r. ⌜ r ≡ freeBy self ⌝ }
+    {
+        let used = self.used();
+        if used < ENTRIES {
+            (ENTRIES - used) as u8
         } else {
-            Slot::Nowhere
+            0
+        }
+    }
+
+    // Is a macro open, and an entry free?
+    fn takes(self) -> bool
+        ensures { λ r. ⌜ r ≡ takesBy self ⌝ }
+    {
+        if (self.opened as usize) < MACROS {
+            self.used() < ENTRIES
+        } else {
+            false
         }
     }
 
@@ -103,14 +115,14 @@ impl Tally {
         let closed = self.closed;
         let lengths = self.lengths;
         let opened = self.opened;
-        if !slots::has_slot(counts, opened) {
+        if !self.takes() {
             return self;
         }
-        let count = slots::count_at(counts, opened) + 1;
+        let count = arrays::count_at(counts, opened) + 1;
         let length = length_at(lengths, opened);
         let length = added(length, span_in(role, opened, closed, lengths));
-        let counts = slots::with_count(counts, opened, count);
-        let lengths = slots::with_length(lengths, opened, length);
+        let counts = arrays::with_count(counts, opened, count);
+        let lengths = arrays::with_length(lengths, opened, length);
         Tally {
             counts,
             lengths,
@@ -123,8 +135,8 @@ impl Tally {
     {
         let counts = self.counts;
         let lengths = self.lengths;
-        let counts = slots::with_count(counts, m, 0);
-        let lengths = slots::with_length(lengths, m, 0);
+        let counts = arrays::with_count(counts, m, 0);
+        let lengths = arrays::with_length(lengths, m, 0);
         Tally {
             counts,
             lengths,
@@ -137,7 +149,7 @@ impl Tally {
         ensures { λ r. ⌜ r ≡ executedBy self Role.Close ⌝ }
     {
         let closed = self.closed;
-        let closed = slots::marked(closed, self.opened);
+        let closed = arrays::marked(closed, self.opened);
         Tally {
             closed,
             opened: NONE,
@@ -195,5 +207,16 @@ impl Tally {
         } else {
             self.executed(role)
         }
+    }
+}
+
+// The pool after an accepted command: an appended one is put behind the open macro's last entry, and what lies behind moves up.
+pub fn keep(words: &mut [u32; 576], tally: Tally, command: Command)
+    ensures { λ r. ⌜ now (words .exit) ≡ poolAfter (now (words .entry)) tally command ⌝ }
+{
+    if command.flag {
+        let counts = tally.counts;
+        let closed = tally.closed;
+        pool::append(words, counts, closed, tally.opened, command);
     }
 }

@@ -25,5 +25,6 @@ pub use kinds::parts_of;
 pub use table::Form;
 pub use table::Found;
 pub use table::Layout;
+pub use table::Row;
 pub use table::row_of;
 pub use table::rule_of;

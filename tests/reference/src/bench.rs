@@ -4,12 +4,12 @@
 use std::collections::VecDeque;
 
 use crate::codes::{
-    refuse_if, Refusal, CLOSE_TOO_LONG, CLOSE_WITHOUT_ENTRIES, MACRO_FULL, MACRO_RUNS,
+    refuse_if, Refusal, CLOSE_TOO_LONG, CLOSE_WITHOUT_ENTRIES, MACRO_RUNS, NO_ENTRY_FREE,
     NO_MACRO_OPEN, OPEN_OF_CLOSED, OPEN_WHILE_OPEN, TARGET_NOT_BELOW, TARGET_NOT_CLOSED,
 };
 use crate::command::{Command, Kind};
 use crate::frame::Frame;
-use crate::macros::{Entry, MacroStore, LONGEST_MACRO, MOST_ENTRIES};
+use crate::macros::{Entry, MacroStore, LONGEST_MACRO};
 use crate::wire::read_command;
 
 /// A time that never falls.
@@ -124,13 +124,14 @@ impl Bench {
         let number = command.arguments[0] as usize;
         let some_open = self.macros.open.is_some();
         let entries = self.macros.open_entries();
-        let length = self.macros.open_length();
+        let too_long = closes && self.macros.open_length() > LONGEST_MACRO;
+        let free = self.macros.free_entries();
         refuse_if((command.appended || closes) && !some_open, NO_MACRO_OPEN)?;
         refuse_if(opens && some_open, OPEN_WHILE_OPEN)?;
         refuse_if(opens && self.macros.closed[number], OPEN_OF_CLOSED)?;
         refuse_if(closes && entries == 0, CLOSE_WITHOUT_ENTRIES)?;
-        refuse_if(closes && length > LONGEST_MACRO, CLOSE_TOO_LONG)?;
-        refuse_if(command.appended && entries >= MOST_ENTRIES, MACRO_FULL)
+        refuse_if(too_long, CLOSE_TOO_LONG)?;
+        refuse_if(command.appended && free == 0, NO_ENTRY_FREE)
     }
 
     /// Codes 17 to 19.

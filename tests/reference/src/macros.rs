@@ -1,10 +1,11 @@
-//! The macro store: which macro is open, which are closed, their entries, and
-//! the written-out list of each.
+//! The macro store: which macro is open, which are closed, their entries, how
+//! many more they may have together, and the written-out list of each.
 
 use crate::command::{Command, Kind};
 
 pub const MACROS: usize = 8;
-pub const MOST_ENTRIES: usize = 24;
+/// What the macros share; none of them has a limit of its own.
+pub const SHARED_ENTRIES: usize = 192;
 pub const LONGEST_MACRO: usize = 600;
 
 /// One entry of a written-out list; none is an entry that does nothing.
@@ -39,6 +40,17 @@ impl MacroStore {
     /// How many entries the open macro has; 0 when none is open.
     pub fn open_entries(&self) -> usize {
         self.open.map_or(0, |number| self.entries[number].len())
+    }
+
+    /// The entries of the open and the closed macros. Any other macro has none,
+    /// for CLEAR drops the entries with the macros.
+    pub fn entries_in_use(&self) -> usize {
+        self.entries.iter().map(Vec::len).sum()
+    }
+
+    /// How many more appends an open macro would take.
+    pub fn free_entries(&self) -> usize {
+        SHARED_ENTRIES.saturating_sub(self.entries_in_use())
     }
 
     /// The written-out length of the open macro; 0 when none is open.

@@ -169,14 +169,14 @@ fn wait_600_closes_and_one_flush_more_does_not() {
 }
 
 #[test]
-fn entry_24_is_appended_and_entry_25_is_not() {
+fn entry_192_is_appended_and_entry_193_is_not() {
     let mut bench = Bench::default();
     take(&mut bench, false, Kind::Open, 0);
-    for _ in 1..=24 {
+    for _ in 1..=192 {
         assert_eq!(code(&mut bench, true, Kind::TlmFlush, 0).0, ACCEPTED);
     }
     assert_eq!(code(&mut bench, true, Kind::TlmFlush, 0), (16, 0));
-    assert_eq!(bench.macros.open_entries(), 24);
+    assert_eq!(bench.macros.open_entries(), 192);
 }
 
 #[test]

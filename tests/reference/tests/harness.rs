@@ -6,7 +6,7 @@ use reference::comparison::rng::Rng;
 use reference::comparison::shrink::shrunk;
 use reference::comparison::tally::{first_difference, grouped, Tally};
 use reference::comparison::{fixed, random};
-use reference::replay::{transcript, LONGEST_SCRIPT};
+use reference::replay::{transcript, Replay, Script, LONGEST_SCRIPT};
 
 #[test]
 fn random_scripts_are_whole_and_the_same_again() {
@@ -16,6 +16,21 @@ fn random_scripts_are_whole_and_the_same_again() {
         assert!(!transcript(&script).contains("bad script"));
         assert_eq!(script, random::script(Rng::stream(7, index)).concat());
     }
+}
+
+#[test]
+fn most_random_scripts_fill_the_pool() {
+    let scripts = (0..20).map(|index| random::script(Rng::stream(7, index)));
+    assert!(scripts.filter(|script| fills_the_pool(script)).count() > 10);
+}
+
+/// Whether there is a time at which no entry is free.
+fn fills_the_pool(script: &[Item]) -> bool {
+    let mut replay = Replay::default();
+    script.iter().any(|item| {
+        replay.item(&mut Script::new(item));
+        replay.bench.macros.free_entries() == 0
+    })
 }
 
 #[test]

@@ -2,27 +2,25 @@
 // carried out as the command that it says, and the command's record has the line's number.
 ghost use Prim.Native.Nat.{_*_, _≤_};
 ghost use mathlib.Core.Path.{_≡_};
-ghost use mathlib.Core.Bool.{true};
 ghost use lib.ListN.{length};
 ghost use Rattle.words.specs.BigEndian.{written};
 ghost use Rattle.wire.specs.Judge.{toldWith};
 ghost use Rattle.walk.specs.Walk.{rests};
 ghost use Rattle.text.specs.Findings.{finding, nothing, firstFound};
 ghost use Rattle.text.specs.Assemble.{bytesIn, textFindings};
-ghost use Rattle.store.specs.TallySteps.{Tallied};
-ghost use Rattle.bench.specs.Status.{benchSound};
 ghost use Rattle.bench.specs.Typed.{typedList, begunFinding, typedRanOf, typedOf, typedRoom};
-ghost use Rattle.bench.specs.Steps.{refusedTyped};
+ghost use Rattle.bench.specs.Steps.{benchOf, AtWork, refusedTyped};
 use super::super::Bench;
-use super::super::camera_after;
+use super::super::Works;
+use super::super::bench_of;
 use super::super::deciding::Decision;
 use super::super::deciding::permitted;
 use super::super::deciding::told_by;
+use super::super::survey;
+use super::super::take_effect;
+use super::Part;
 use super::ROOM;
 use super::run_list;
-use store::Slot;
-use store::Store;
-use store::Tally;
 use text::Fault;
 use text::Finding;
 use text::Line;
@@ -72,25 +70,16 @@ pub fn finding_of(begun: TypedBegun) -> Finding
     }
 }
 
-// A typed list carried out: the bench afterwards, and how many commands its lines had.
-struct Lines {
-    bench: Bench,
-    count: u32,
-}
-
-// Carries out a text that was judged good, line by line, and puts the records of its commands into the front of a room. Codes 1 to 10 passed when
-// the text was judged, so that no line is bad here and the tally alone decides.
-fn run_lines(bench: Bench, tally: Tally, text: &[u8], room: &mut [u8]) -> Lines
+// Carries out a text that was judged good, line by line, on a lent pool, and puts the records of its commands into the front of a room. Codes 1 to 10
+// passed when the text was judged, so that no line is bad here and the tally alone decides.
+fn run_lines(works: Works, pool: &mut [u32; 576], text: &[u8], room: &mut [u8]) -> Part
     requires { ⌜ (firstFound (textFindings (now text)) ≡ nothing) × (length (rests (bytesIn (now text))) * 8 ≤ length (now room)) ⌝ }
-    requires { ⌜ (benchSound bench ≡ true) × Tallied (bench .store) tally ⌝ }
-    ensures { λ r. ⌜ r .bench ≡ typedList bench (now (text .entry)) .bench ⌝ }
+    requires { ⌜ AtWork works (now pool) ⌝ }
+    ensures { λ r. ⌜ benchOf (r .works) (now (pool .exit)) ≡ typedList (benchOf works (now (pool .entry))) (now (text .entry)) .bench ⌝ }
     ensures { λ r. ⌜ r .count ≡ length (rests (bytesIn (now (text .entry)))) ⌝ }
-    ensures { λ r. ⌜ now (room .exit) ≡ written (typedList bench (now (text .entry)) .records) (now (room .entry)) ⌝ }
+    ensures { λ r. ⌜ now (room .exit) ≡ written (typedList (benchOf works (now (pool .entry))) (now (text .entry)) .records) (now (room .entry)) ⌝ }
 {
-    let mut camera = bench.camera;
-    let store = bench.store;
-    let mut entries = store.entries;
-    let mut tally = tally;
+    let mut works = works;
     let mut at: usize = 0;
     let mut number: u32 = 0;
     let mut count: u32 = 0;
@@ -102,7 +91,7 @@ fn run_lines(bench: Bench, tally: Tally, text: &[u8], room: &mut [u8]) -> Lines
             Line::Blank => continue,
             Line::Bad(_) => continue,
             Line::Typed(command) => {
-                let decision = permitted(tally, command);
+                let decision = permitted(works.tally, command);
                 let told = told_by(decision);
                 let end = (count as usize) * report::RECORD;
                 count += 1;
@@ -110,19 +99,13 @@ fn run_lines(bench: Bench, tally: Tally, text: &[u8], room: &mut [u8]) -> Lines
                 match decision {
                     Decision::Refused(_) => continue,
                     Decision::Accepted(command) => {
-                        camera = camera_after(camera, command);
-                        if let Slot::At(i) = tally.slot_for(command) {
-                            entries[i] = command;
-                        }
-                        tally = tally.applied(command);
+                        works = take_effect(works, pool, command);
                     }
                 }
             }
         }
     }
-    let store = Store::of_parts(entries, tally);
-    let bench = Bench { camera, store };
-    Lines { bench, count }
+    Part { works, count }
 }
 
 // A run whose lists were judged: 21, then 27, then the kit's list and the pupil's.
@@ -134,17 +117,19 @@ fn run_judged(bench: Bench, kit: &[u8], text: &[u8], room: &mut [u8]) -> TypedRa
     if room.len() < ROOM {
         return refused(bench, TypedBegun::RoomTooSmall);
     }
-    let survey = bench.survey();
+    let store = bench.store;
+    let mut pool = store.pool;
+    let works = bench.works();
+    let survey = survey(works, &pool);
     if !survey.sound {
         return refused(bench, TypedBegun::Unsound);
     }
     let tally = survey.tally;
-    let first = run_list(bench, tally, kit, walk::KIT, room);
+    let works = Works { tally, ..works };
+    let first = run_list(works, &mut pool, kit, walk::KIT, room);
     let end = (first.count as usize) * report::RECORD;
-    let bench = first.bench;
-    let tally = first.tally;
-    let second = run_lines(bench, tally, text, &mut room[end..]);
-    let bench = second.bench;
+    let second = run_lines(first.works, &mut pool, text, &mut room[end..]);
+    let bench = bench_of(second.works, pool);
     TypedRan {
         bench,
         begun: TypedBegun::Done,

@@ -1,12 +1,12 @@
 //! Fixed episodes about the bench: wraps of every count, series second by
-//! second, nests at the 600 limit, full macros, and checks that meet.
+//! second, nests at the 600 limit, and checks that meet.
 
 use super::items::{append, command, now, passed, raw, run, second, status, watched, Item};
 use crate::command::{Kind, TABLE};
-use crate::macros::{LONGEST_MACRO, MACROS, MOST_ENTRIES};
+use crate::macros::{LONGEST_MACRO, MACROS};
 use crate::wire::bytes_of;
 
-const TOP: u32 = MACROS as u32 - 1;
+pub(super) const TOP: u32 = MACROS as u32 - 1;
 const FOREVER: u32 = 65535;
 
 pub fn episodes() -> Vec<Vec<Item>> {
@@ -22,7 +22,7 @@ pub fn episodes() -> Vec<Vec<Item>> {
         episodes.push(nest(doubling(length)));
         episodes.push(nest(fan(length)));
     }
-    episodes.extend([full_macros(), longest_waits(), meeting_checks()]);
+    episodes.extend([longest_waits(), meeting_checks()]);
     episodes.extend([stop_and_clear(), busy_bench()]);
     episodes
 }
@@ -193,27 +193,6 @@ fn nest(mut items: Vec<Item>) -> Vec<Item> {
     items.extend([now(Kind::Run, TOP), passed(598), status()]);
     items.extend(watched(4));
     items.extend([now(Kind::Clear, 0), status()]);
-    items
-}
-
-/// 24 entries are taken, and no kind of command is taken as the 25th.
-fn full_macros() -> Vec<Item> {
-    let mut items = vec![
-        now(Kind::Open, 3),
-        append(Kind::TlmFlush, 0),
-        now(Kind::Close, 0),
-    ];
-    items.push(now(Kind::Open, TOP));
-    for entry in 0..MOST_ENTRIES as u32 {
-        items.extend([append(Kind::ImgRegion, entry), status()]);
-    }
-    for row in &TABLE {
-        items.push(command(&raw(true, row.kind, [1, 1])));
-    }
-    // 16 stands before 17 and 18.
-    items.extend([TOP, 2, 3].map(|number| append(Kind::Run, number)));
-    items.extend([now(Kind::Close, 0), status(), now(Kind::Run, TOP)]);
-    items.extend(watched(MOST_ENTRIES + 1));
     items
 }
 

@@ -6,6 +6,7 @@ use super::items::raw;
 use super::rng::Rng;
 use super::texts::{self, lengthened};
 use crate::command::Kind;
+use crate::macros::SHARED_ENTRIES;
 use crate::run::LONGEST_LIST;
 use crate::text::LONGEST_TEXT;
 
@@ -31,6 +32,8 @@ pub fn texts(rng: &mut Rng, random: usize) -> Vec<Vec<u8>> {
     ];
     let mut all: Vec<Vec<u8>> = small.iter().map(|text| text.as_bytes().to_vec()).collect();
     all.extend([512, 513].map(|times| b"tlm_flush\n".repeat(times)));
+    let appends = "+tlm_flush\n".repeat(SHARED_ENTRIES + 1);
+    all.push(format!("open 7\n{appends}close\nrun 7\n").into_bytes());
     all.extend([0, 1].map(|more| lengthened(b"stop", LONGEST_TEXT + more)));
     all.push(vec![b'\n'; LONGEST_TEXT]);
     all.extend((0..random).map(|_| {

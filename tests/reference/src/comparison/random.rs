@@ -1,5 +1,5 @@
 //! Random scripts. A shadow bench follows what is sent, so that a command can
-//! be aimed: at a macro that is closed, at the 600 limit, at the 24th entry.
+//! be aimed: at a macro that is closed, at the 600 limit, at the last free entry.
 
 use super::damage::{acting_kind, any_kind, arguments, damaged, random_list};
 use super::fixed::SCRIPT_AIM;
@@ -10,7 +10,7 @@ use super::items::{
 use super::rng::Rng;
 use crate::command::Kind;
 use crate::frame::{AT_CLOSED, AT_CLOSED_COUNT, AT_RUNNING, FRAME_BYTES, NO_MACRO};
-use crate::macros::{LONGEST_MACRO, MACROS, MOST_ENTRIES};
+use crate::macros::{LONGEST_MACRO, MACROS};
 use crate::replay::{Replay, Script, DECODED_ROOM, LONGEST_SCRIPT};
 use crate::run::{KIT, LONGEST_LIST, PUPIL, SMALLEST_REPORT_ROOM};
 use crate::wire::MOST_WORDS;
@@ -59,7 +59,7 @@ impl Maker {
     }
 
     fn episode(&mut self) {
-        match self.rng.below(130) {
+        match self.rng.below(136) {
             0..=29 => self.macros_episode(),
             30..=49 => self.chatter_episode(),
             50..=59 => self.decoded_episode(),
@@ -71,6 +71,7 @@ impl Maker {
             109..=114 => self.list_episode(),
             115..=124 => self.typed_episode(),
             125..=128 => self.line_episode(),
+            129..=134 => self.pool_episode(),
             _ => self.long_text_episode(),
         }
     }
@@ -98,9 +99,11 @@ impl Maker {
     }
 
     fn fill_macro(&mut self, tight: bool) {
-        let entries = match self.rng.below(10) {
-            0 => self.rng.below(2),
-            1 => MOST_ENTRIES + self.rng.below(3),
+        let free = self.shadow.bench.macros.free_entries();
+        let entries = match self.rng.below(60) {
+            0..=5 => self.rng.below(2),
+            6..=9 => self.rng.within(20, 40),
+            10 => free + self.rng.below(20),
             _ => self.rng.within(1, 6),
         };
         for _ in 0..entries {
@@ -132,7 +135,7 @@ impl Maker {
     }
 
     /// A macro's number, mostly that of a closed one if there is any.
-    fn likely_number(&mut self) -> u32 {
+    pub(super) fn likely_number(&mut self) -> u32 {
         let closed = self.shadow.bench.macros.closed;
         let known: Vec<usize> = (0..MACROS).filter(|number| closed[*number]).collect();
         if known.is_empty() || self.rng.percent(15) {
@@ -142,7 +145,7 @@ impl Maker {
     }
 
     /// Runs a macro, mostly to its end, with commands between the seconds.
-    fn run_a_macro(&mut self) {
+    pub(super) fn run_a_macro(&mut self) {
         let number = self.likely_number();
         self.push_all([now(Kind::Run, number), status()]);
         let left = self.shadow.bench.seconds_left();
@@ -164,7 +167,7 @@ impl Maker {
     }
 
     /// One or two commands from outside, most of them whole.
-    fn disturb(&mut self) {
+    pub(super) fn disturb(&mut self) {
         for _ in 0..self.rng.within(1, 2) {
             let bytes = self.likely_command();
             let damage = self.rng.percent(15);

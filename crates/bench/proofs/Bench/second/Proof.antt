@@ -1,13 +1,23 @@
 -- `Bench::second` meets its contract: 27 by the rules outside the store or by the store itself, else the series and then what the store hands over.
 use borrow.Author.Needs.{needs}
-use mathlib.Core.Path.{sym, _∙_}
+use mathlib.Core.Path.{_≡_, sym, ap, _∙_}
 use borrow.Author.Tests.{not-true, not-false}
-use Rattle.bench.proofs.Judging.{no-rules, no-second, no-step, second-passed}
+use Rattle.store.specs.SecondSteps.{stepOf, steppedOf}
+use Rattle.bench.specs.declared.Bench.{Bench}
+use Rattle.bench.specs.Status.{rulesHold}
+use Rattle.bench.proofs.Judging.{own-bench, no-rules, no-second, no-step, second-passed}
 use Rattle.bench.proofs.Bench.second.Statement.{statement}
 use Rattle.bench.proofs.Bench.second.Tie as tie
 
+works-requires : tie.Need-works-requires
+works-requires c κs = search needs
+
 obeys-requires : tie.Need-obeys-requires
 obeys-requires c κs = search needs
+
+-- What was asked of the rules is told of the bench.
+rules-told : (c : tie.After-obeys) → rulesHold (c .before .before .args .t1) ≡ c .obeys .result
+rules-told c = sym (c .obeys .ensures ∙ ap rulesHold (own-bench (c .before .before .args .t1) _ (c .before .works .ensures)))
 
 stayed-requires : tie.Need-stayed-requires
 stayed-requires c κs = search needs
@@ -15,11 +25,21 @@ stayed-requires c κs = search needs
 returns : tie.Need-returns
 returns c =
     let obeys = c .before .before in
-    let b = obeys .before .args .self in
-    c .stayed .ensures ∙ no-second b (no-rules b (sym (obeys .obeys .ensures) ∙ not-true _ (c .before .if1 .taken)))
+    let b = obeys .before .before .args .t1 in
+    c .stayed .ensures ∙ no-second b (no-rules b (rules-told obeys ∙ not-true _ (c .before .if1 .taken)))
+
+-- Where the rules were found to hold, from the step.
+abbrev rules : tie.After-second → tie.Else1
+rules c = c .before .before .before
 
 second-requires : tie.Need-second-requires
 second-requires c κs = search needs
+
+-- What the store did is told of the store of that bench.
+store-told : (c : tie.After-second) → stepOf (c .second .result) ≡ steppedOf (rules c .before .before .before .args .t1 .store)
+store-told c =
+    let works = rules c .before .before in
+    c .second .ensures ∙ ap (λ (b : Bench). steppedOf (b .store)) (own-bench (works .before .args .t1) _ (works .works .ensures))
 
 stayed-requires-2 : tie.Need-stayed-requires-2
 stayed-requires-2 c κs = search needs
@@ -27,27 +47,28 @@ stayed-requires-2 c κs = search needs
 returns-2 : tie.Need-returns-2
 returns-2 c =
     let step = c .before .before .before in
-    let rules = step .before .before in
+    let obeys = rules step .before in
     c .stayed2 .ensures
-    ∙ no-step (rules .before .before .args .self) (step .second .result) (sym (rules .before .obeys .ensures) ∙ not-false _ (rules .if1 .left))
-    (step .second .ensures) (not-true _ (c .before .if2 .taken))
+    ∙ no-step (obeys .before .before .args .t1) (step .second .result) (rules-told obeys ∙ not-false _ (rules step .if1 .left))
+    (store-told step) (not-true _ (c .before .if2 .taken))
 
 camera-second-requires : tie.Need-camera-second-requires
 camera-second-requires c κs = search needs
 
 returns-3 : tie.Need-returns-3
 returns-3 c =
-    let camera = c .before .before .before in
+    let camera = c .before .before .before .before in
     let sound = camera .before .before in
     let step = sound .before .before in
-    let rules = step .before .before in
-    second-passed (rules .before .before .args .self) (step .second .result) (sym (rules .before .obeys .ensures) ∙ not-false _ (rules .if1 .left))
-    (step .second .ensures) (camera .camera-second .result) (not-false _ (sound .if2 .left)) (camera .camera-second .ensures)
+    let obeys = rules step .before in
+    second-passed (obeys .before .before .args .t1) (step .second .result) (rules-told obeys ∙ not-false _ (rules step .if1 .left))
+    (store-told step) (camera .camera-second .result) (not-false _ (sound .if2 .left)) (camera .camera-second .ensures)
 
 pub second-spec : {M : Type 1} → statement M
 second-spec =
     tie.close
     (tie.spec
+    works-requires
     obeys-requires
     stayed-requires
     returns

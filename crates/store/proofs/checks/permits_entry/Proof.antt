@@ -14,18 +14,18 @@ use Rattle.store.proofs.checks.permits_entry.Statement.{statement}
 use Rattle.store.proofs.checks.permits_entry.Tie as tie
 
 abbrev rows : tie.Start → List Check
-rows c = entryChecks (c .args .flag) (c .args .role) (c .args .count) (c .args .closed) (c .args .opened) (c .args .running)
+rows c = entryChecks (c .args .flag) (c .args .role) (c .args .used) (c .args .closed) (c .args .opened) (c .args .running)
 
 -- The code is that of the first row that holds past the first n.
 abbrev From : ℕ → tie.Start → Type 0
 From n c = firstOf (rows c) ≡ firstOf (drop n (rows c))
 
-slot-left : (c : tie.Joined1) → row16 (c .before .args .flag) (c .before .args .count) ≡ false
-slot-left c =
-    ⊎-elim (λ w. rw (w .0 .taken) (lt-leb 24 (c .before .args .count) (w .1 .left))) (λ w. rw (w .left)) (c .if1 .came)
+entry-free : (c : tie.Joined1) → row16 (c .before .args .flag) (c .before .args .used) ≡ false
+entry-free c =
+    ⊎-elim (λ w. rw (w .0 .taken) (lt-leb 192 (c .before .args .used) (w .1 .left))) (λ w. rw (w .left)) (c .if1 .came)
 
 past-16 : (c : tie.Joined1) → From 1 (c .before)
-past-16 c = rw (slot-left c)
+past-16 c = rw (entry-free c)
 
 past-17 : (c : tie.Else3) → From 2 (c .before .before .before)
 past-17 c = past-16 (c .before .before) ∙ rw (← c .before .runs-upward .ensures, c .if3 .left)
@@ -34,7 +34,7 @@ past-18 : (c : tie.Else4) → From 3 (c .before .before .before .before .before)
 past-18 c = past-17 (c .before .before) ∙ rw (← c .before .runs-unclosed .ensures, c .if4 .left)
 
 returns : tie.Need-returns
-returns c = rw (c .before .if1 .taken, le-leb 24 (c .before .before .args .count) (c .if2 .taken))
+returns c = rw (c .before .if1 .taken, le-leb 192 (c .before .before .args .used) (c .if2 .taken))
 
 runs-upward-requires : tie.Need-runs-upward-requires
 runs-upward-requires c κs = search needs

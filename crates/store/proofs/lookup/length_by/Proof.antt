@@ -2,68 +2,49 @@
 -- both together told up to 601, is what all entries span.
 use Prim.Native.Nat.{ℕ, _+_, _-_, _≤_, min}
 use mathlib.Core.Path.{_≡_, sym, ap, _∙_}
-use mathlib.Core.List.{List, _∷_}
+use mathlib.Core.List.{List}
+use mathlib.Core.Bool.{Bool}
 use native.Mathlib.Omega.{arith}
-use lib.ListN.{getD, drop}
 use borrow.Author.Needs.{needs}
-use Rattle.store.specs.declared.Store.{Store}
-use Rattle.store.specs.Slots.{emptySlot, entriesOf}
+use Rattle.wire.specs.declared.kinds.Command.{Command}
+use Rattle.store.specs.Pool.{between}
 use Rattle.store.specs.LookupSteps.{spansIn}
-use Rattle.store.proofs.Lengths.{sum-turn, sum-end}
-use Rattle.store.proofs.Walk.{Walk, length-mapped, walk-next, walk-end}
+use Rattle.store.proofs.Lengths.{sum-start, sum-turn, sum-end}
+use Rattle.store.proofs.Walk.{Walk, walk-start, walk-next, walk-end}
 use Rattle.store.proofs.lookup.length_by.Statement.{statement}
 use Rattle.store.proofs.lookup.length_by.Tie as tie
 
 -- What is summed so far and what the entries from i on span make what all of them span.
-record Summed (store : Store) (m : ℕ) (table : List ℕ) (count sum i : ℕ) : Type 0 where
-  walk : Walk store m count
+record Summed (words : List ℕ) (es : List Command) (m : ℕ) (closed : List Bool) (table : List ℕ) (end sum i : ℕ) : Type 0 where
+  walk : Walk words end
   small : sum ≤ 601
-  summed : min 601 (spansIn (store .closed) table m (entriesOf store m))
-      ≡ min 601 (sum + spansIn (store .closed) table m (drop i (entriesOf store m)))
+  summed : min 601 (spansIn closed table m es) ≡ min 601 (sum + spansIn closed table m (between words i (end - i)))
 
 abbrev Inv-loop : tie.InvT-loop
-Inv-loop m table store closed count at sum₀ i₀ sum i = Summed store m table count sum i
+Inv-loop words start size m closed table end sum₀ i₀ sum i = Summed words (between words start size) m closed table end sum i
 
 abbrev μ-loop : tie.MeasureT-loop
-μ-loop m table store closed count at sum₀ i₀ sum i = count - i
+μ-loop words start size m closed table end sum₀ i₀ sum i = end - i
 
-filled-requires : tie.Need-filled-requires Inv-loop μ-loop
-filled-requires c κs = search needs
+end-of-requires : tie.Need-end-of-requires Inv-loop μ-loop
+end-of-requires c κs = search needs
 
 loop-holds : tie.Need-loop-holds Inv-loop μ-loop
 loop-holds c =
+    let start = c .before .before in
+    let args = start .args in
+    let walked = walk-start (args .words .now) (args .start) (args .size) _ (start .pre .0) (c .end-of .ensures) in
     record {
-      walk = record { slots = search (needs, length-mapped); number = c .before .before .before .pre; counted = c .filled .ensures };
+      walk = record { whole = start .pre .0; inside = omega arith };
       small = omega arith;
-      summed = ap (λ n. min 601 n) (omega arith);
+      summed = sum-start (args .closed) (args .table) (args .m) _ _ walked;
     }
 
-slot-of-requires : tie.Need-slot-of-requires Inv-loop μ-loop
-slot-of-requires c κs = search needs
+entry-at-requires : tie.Need-entry-at-requires Inv-loop μ-loop
+entry-at-requires c κs = omega arith
 
-mul-entry : tie.Need-mul-entry Inv-loop μ-loop
-mul-entry c = search needs
-
-element-copy-out-entry : tie.Need-element-copy-out-entry Inv-loop μ-loop
-element-copy-out-entry c = search needs
-
--- The entries from i on are the one that is read and the rest.
-read : (c : tie.After-slot-of Inv-loop μ-loop)
-    → let args = c .before .before .before .before .before .before .args in
-    let entries = entriesOf (args .t1) (args .m) in
-    let i = c .before .before .loop .i in
-    drop i entries ≡ getD (args .t1 .entries) (c .slot-of .result) emptySlot ∷ drop (i + 1) entries
-read c =
-    let args = c .before .before .before .before .before .before .args in
-    let at = c .before .before .loop in
-    let count = c .before .before .before .filled .result in
-    walk-next (args .t1) (args .m) count (at .i) (at .inv .walk) (c .slot-of .result) (omega arith) (c .slot-of .ensures)
-
-role-of-requires : tie.Need-role-of-requires Inv-loop μ-loop
-role-of-requires c κs = search needs
-
-span-in-requires : tie.Need-span-in-requires Inv-loop μ-loop
-span-in-requires c κs = search needs
+span-of-requires : tie.Need-span-of-requires Inv-loop μ-loop
+span-of-requires c κs = search needs
 
 added-requires : tie.Need-added-requires Inv-loop μ-loop
 added-requires c κs = search needs
@@ -76,38 +57,24 @@ loop-less c = search needs
 
 loop-again : tie.Need-loop-again Inv-loop μ-loop
 loop-again c =
-    let at = c .before .before .before .before .before .before .loop in
-    let args = c .before .before .before .before .before .before .before .before .before .before .args in
-    let role = c .before .before .role-of in
-    let span = c .before .span-in in
+    let args = c .before .before .before .before .before .before .before .args in
+    let at = c .before .before .before .before .loop in
+    let below = c .before .before .before .loop-test .taken in
+    let next = walk-next (args .words .now) _ (at .i) _ (at .inv .walk) below (c .before .before .entry-at .ensures) in
     record {
       walk = at .inv .walk;
       small = omega (arith, c .added .ensures);
       summed =
           at .inv .summed
-          ∙ sum-turn
-          (args .t1 .closed)
-          (args .table)
-          (args .m)
-          (at .sum)
-          (span .result)
-          (c .added .result)
-          (getD (args .t1 .entries) (c .before .before .before .before .slot-of .result) emptySlot)
-          _
-          _
-          (role .result)
-          (read (c .before .before .before .before))
-          (role .ensures)
-          (span .ensures)
-          (c .added .ensures);
+          ∙ sum-turn (args .closed) (args .table) (args .m) (at .sum) _ _ _ _ _ next (c .before .span-of .ensures) (c .added .ensures);
     }
 
 returns : tie.Need-returns Inv-loop μ-loop
 returns c =
+    let args = c .before .before .before .before .args in
     let at = c .before .loop in
-    let args = c .before .before .before .before .before .args in
-    let none = walk-end (args .t1) (args .m) _ (at .i) (at .inv .walk) (omega arith) in
-    let all = sum-end (args .t1 .closed) (args .table) (args .m) (at .sum) _ none in
+    let none = walk-end (args .words .now) _ (at .i) (c .loop-test .left) in
+    let all = sum-end (args .closed) (args .table) (args .m) (at .sum) _ none in
     sym (at .inv .summed ∙ ap (λ n. min 601 n) all ∙ omega (arith, at .inv .small))
 
 pub length-by-spec : {M : Type 1} → statement M
@@ -116,13 +83,10 @@ length-by-spec =
     (tie.spec
     Inv-loop
     μ-loop
-    filled-requires
+    end-of-requires
     loop-holds
-    slot-of-requires
-    mul-entry
-    element-copy-out-entry
-    role-of-requires
-    span-in-requires
+    entry-at-requires
+    span-of-requires
     added-requires
     add-i
     loop-less

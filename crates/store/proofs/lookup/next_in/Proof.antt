@@ -6,6 +6,8 @@ use native.Mathlib.Omega.{arith}
 use lib.ListN.{length, getD}
 use borrow.Author.Needs.{needs}
 use Rattle.store.specs.WrittenOut.{writtenOut}
+use Rattle.store.specs.LookupSteps.{Asked}
+use Rattle.store.specs.TallySteps.{storeOf}
 use Rattle.store.proofs.Lengths.{all-told}
 use Rattle.store.proofs.lookup.next_in.Statement.{statement}
 use Rattle.store.proofs.lookup.next_in.Tie as tie
@@ -18,27 +20,37 @@ less-requires c κs = search needs
 
 -- What the table tells of the macro is its whole length.
 whole : (c : tie.After-length-at)
-    → let args = c .before .args in
-    c .length-at .result ≡ length (writtenOut (args .store) (args .m))
+    → let args = c .before .before .before .args in
+    c .length-at .result ≡ length (writtenOut (storeOf (args .words .now) (args .tally)) (args .m))
 whole c =
-    let start = c .before in
+    let start = c .before .before .before in
     let args = start .args in
-    c .length-at .ensures ∙ all-told (args .store) (args .table) (start .pre .told) (args .m) (start .pre .number) ∙ omega (arith, start .pre .whole)
+    let due = start .pre .1 in
+    c .length-at .ensures
+    ∙ all-told (storeOf (args .words .now) (args .tally)) (args .tally .lengths) (due .told) (args .m) (due .number)
+    ∙ omega (arith, due .whole)
 
 entry-in-requires : tie.Need-entry-in-requires
 entry-in-requires c κs =
-    let start = c .before .before in
+    let start = c .before .before .before .before in
+    let args = start .args in
+    let due = start .pre .1 in
+    let told = all-told (storeOf (args .words .now) (args .tally)) (args .tally .lengths) (due .told) in
+    let asked : Asked (storeOf (args .words .now) (args .tally)) (args .m) (c .less .result) (args .tally .lengths) =
     record {
-      number = start .pre .number;
-      within = omega (arith, whole (c .before), start .pre .whole);
-      told = λ j below. all-told (start .args .store) (start .args .table) (start .pre .told) j (omega (arith, start .pre .number));
-    }
+      number = due .number;
+      within = omega (arith, whole (c .before), due .whole);
+      told = λ j below. told j (omega (arith, due .number));
+    } in
+    (start .pre .0, asked)
 
 returns : tie.Need-returns
 returns c =
-    let args = c .before .before .before .args in
+    let args = c .before .before .before .before .before .args in
     c .entry-in .ensures
-    ∙ ap (λ k. getD (writtenOut (args .store) (args .m)) k []) (c .before .less .ensures ∙ ap (λ n. n - args .left) (whole (c .before .before)))
+    ∙ ap
+    (λ k. getD (writtenOut (storeOf (args .words .now) (args .tally)) (args .m)) k [])
+    (c .before .less .ensures ∙ ap (λ n. n - args .left) (whole (c .before .before)))
 
 pub next-in-spec : {M : Type 1} → statement M
 next-in-spec =

@@ -7,13 +7,10 @@ returns : tie.Need-returns
 returns c = rw (lt-leb 1 _ (c .if1 .taken))
 
 returns-2 : tie.Need-returns-2
-returns-2 c = rw (le-leb 1 _ (c .before .if1 .left), lt-leb _ 24 (c .if2 .taken))
+returns-2 c = rw (le-leb 1 _ (c .before .if1 .left), lt-leb 1 _ (c .if2 .taken))
 
 returns-3 : tie.Need-returns-3
-returns-3 c = rw (le-leb 1 _ (c .before .before .if1 .left), le-leb _ 24 (c .before .if2 .left), lt-leb 1 _ (c .if3 .taken))
-
-returns-4 : tie.Need-returns-4
-returns-4 c = rw (le-leb 1 _ (c .before .before .if1 .left), le-leb _ 24 (c .before .if2 .left), le-leb 1 _ (c .if3 .left))
+returns-3 c = rw (le-leb 1 _ (c .before .if1 .left), le-leb 1 _ (c .if2 .left))
 
 pub closed-fits-spec : {M : Type 1} → statement M
-closed-fits-spec = tie.close (tie.spec returns returns-2 returns-3 returns-4)
+closed-fits-spec = tie.close (tie.spec returns returns-2 returns-3)

@@ -4,8 +4,8 @@ use Rattle.store.proofs.SoundLaws.{passes-allowed, passes-refused}
 use Rattle.store.proofs.soundness.passes.Statement.{statement}
 use Rattle.store.proofs.soundness.passes.Tie as tie
 
-judge-requires : tie.Need-judge-requires
-judge-requires c κs = search needs
+judge-by-requires : tie.Need-judge-by-requires
+judge-by-requires c κs = search needs
 
 enum-told : tie.Need-enum-told
 enum-told c = search needs
@@ -15,13 +15,13 @@ enum-told-2 c = search needs
 
 returns : tie.Need-returns
 returns c =
-    let judge = c .before .before .judge in
-    passes-allowed (c .before .before .before .args .entry) (judge .result) (judge .ensures) (c .enum-told .given .1)
+    let judge = c .before .before .judge-by in
+    passes-allowed _ (judge .result) (judge .ensures) (c .enum-told .given .1)
 
 returns-2 : tie.Need-returns-2
 returns-2 c =
-    let judge = c .before .before .judge in
-    passes-refused (c .before .before .before .args .entry) (judge .result) _ (judge .ensures) (c .enum-told2 .given .1)
+    let judge = c .before .before .judge-by in
+    passes-refused _ (judge .result) _ (judge .ensures) (c .enum-told2 .given .1)
 
 pub passes-spec : {M : Type 1} → statement M
-passes-spec = tie.close (tie.spec judge-requires enum-told enum-told-2 returns returns-2)
+passes-spec = tie.close (tie.spec judge-by-requires enum-told enum-told-2 returns returns-2)

@@ -1,9 +1,7 @@
 -- `lists::typed::run_lines` meets its contract, by the laws of `TypedList`: the loop's invariant is that what is left of the text, carried out from
 -- here, gives what the whole text gives from its start, with a tally that is true of a sound bench. Each turn passes a line.
-use Prim.Native.Nat.{_+_, _*_, _-_, _≤_, _<_}
+use Prim.Native.Nat.{_+_, _*_, _-_, _≤_}
 use mathlib.Core.Path.{_≡_, sym, ap, _∙_}
-use mathlib.Core.Logic.{⊎-elim}
-use mathlib.Core.List.{List}
 use native.Mathlib.Omega.{arith}
 use lib.ListN.{length}
 use borrow.Author.Needs.{needs}
@@ -13,27 +11,23 @@ use Rattle.text.specs.Line.{lineOf, answerLine}
 use Rattle.text.specs.declared.line.Line.{Line}
 use Rattle.text.specs.declared.findings.Finding.{Finding}
 use Rattle.text.specs.Assemble.{bytesIn}
-use Rattle.store.specs.declared.tally.Slot.{Slot}
-use Rattle.store.specs.TallySteps.{putInto, entriesAfter}
-use Rattle.store.proofs.Laws.{slot-within}
-use Rattle.bench.proofs.Sound.{GoodBench}
-use Rattle.bench.proofs.Shapes.{shaped}
-use Rattle.bench.proofs.Listing.{benchOf}
-use Rattle.bench.proofs.TypedList.{Passed, passed, AtLine, start, from-parts, line-passes, one-more}
+use Rattle.bench.specs.Steps.{benchOf}
+use Rattle.bench.proofs.Shapes.{at-work-good}
+use Rattle.bench.proofs.TypedList.{Passed, passed, AtLine, start, line-passes, one-more}
 use Rattle.bench.proofs.TypedList.{turn-blank, turn-bad, turn-refused, turn-accepted, text-ended}
 use Rattle.bench.proofs.lists.typed.run_lines.Statement.{statement}
 use Rattle.bench.proofs.lists.typed.run_lines.Tie as tie
 
 abbrev Inv-loop : tie.InvT-loop
-Inv-loop text room₀ camera₀ entries₀ tally₀ at₀ number₀ count₀ room camera entries tally at number count =
-    AtLine (benchOf camera₀ entries₀ tally₀) text room₀ room (benchOf camera entries tally) tally at number count
+Inv-loop pool₀ text room₀ works₀ at₀ number₀ count₀ pool room works at number count =
+    AtLine (benchOf works₀ pool₀) text room₀ room works pool at number count
 
 abbrev μ-loop : tie.MeasureT-loop
-μ-loop text room₀ camera₀ entries₀ tally₀ at₀ number₀ count₀ room camera entries tally at number count = length text - at
+μ-loop pool₀ text room₀ works₀ at₀ number₀ count₀ pool room works at number count = length text - at
 
 -- The function's start, from the loop; the turn, from where its line is known; and where the line was read, from where its record is due.
 abbrev entry : tie.At-loop Inv-loop μ-loop → tie.Start Inv-loop μ-loop
-entry c = c .before .before .before .before .before .before
+entry c = c .before .before .before
 
 abbrev turning : tie.After-front Inv-loop μ-loop → tie.In-loop Inv-loop μ-loop
 turning c = c .before .before
@@ -47,10 +41,10 @@ judged c = passed (entry c .args .text .now) (ap (λ (f : Finding). f .told .cod
 
 loop-holds : tie.Need-loop-holds Inv-loop μ-loop
 loop-holds c =
-    let begin = c .before .before .before .before .before in
+    let begin = c .before .before in
     let args = begin .args in
-    let sound : GoodBench (args .bench) = record { sound = begin .pre .1 .0; shaped = shaped (args .bench) (begin .good .0) } in
-    start (args .bench) (args .tally) (args .text .now) (args .room .now) sound (begin .pre .1 .1)
+    start (args .works) (args .pool .now) (args .text .now) (args .room .now)
+    (at-work-good (args .works) (args .pool .now) (begin .good .0) (begin .pre .1)) (begin .pre .1 .tallied)
     (passed (args .text .now) (ap (λ (f : Finding). f .told .code) (begin .pre .0 .0)) .good)
 
 sub-front : tie.Need-sub-front Inv-loop μ-loop
@@ -184,81 +178,31 @@ loop-again-3 c =
 enum-known-decision : tie.Need-enum-known-decision Inv-loop μ-loop
 enum-known-decision c = search needs
 
-camera-after-requires : tie.Need-camera-after-requires Inv-loop μ-loop
-camera-after-requires c κs = search needs
-
-slot-for-requires : tie.Need-slot-for-requires Inv-loop μ-loop
-slot-for-requires c κs = search needs
-
-enum-known-i : tie.Need-enum-known-i Inv-loop μ-loop
-enum-known-i c = search needs
-
--- The turn in which a slot is asked for, and the command that it is for.
-abbrev asked : tie.After-slot-for Inv-loop μ-loop → tie.After-told-by Inv-loop μ-loop
-asked c = c .before .before .before .before .before .before .before .before .before
-
-abbrev asking : tie.After-slot-for Inv-loop μ-loop → tie.At-loop Inv-loop μ-loop
-asking c = turning (lined (asked c) .before) .before
-
-abbrev accepted : tie.After-slot-for Inv-loop μ-loop → Command
-accepted c = c .before .before .before .decision .given .0 .0
-
--- A slot that was found is one of the 192.
-within : (c : tie.After-known-told3 Inv-loop μ-loop) → c .before .i .given .0 .0 < 192
-within c =
-    let slot = c .before .before .before in
-    slot-within (asking slot .loop .tally) (accepted slot) (c .before .i .given .0 .0) (sym (c .before .i .given .1) ∙ slot .slot-for .ensures)
-
-mul-entries : tie.Need-mul-entries Inv-loop μ-loop
-mul-entries c = omega (arith, within c)
-
-array-set-from-entries : tie.Need-array-set-from-entries Inv-loop μ-loop
-array-set-from-entries c = within c
-
-enum-told-4 : tie.Need-enum-told-4 Inv-loop μ-loop
-enum-told-4 c = search needs
-
-applied-requires : tie.Need-applied-requires Inv-loop μ-loop
-applied-requires c κs = search needs
+take-effect-requires : tie.Need-take-effect-requires Inv-loop μ-loop
+take-effect-requires c κs = search needs
 
 loop-less-4 : tie.Need-loop-less-4 Inv-loop μ-loop
-loop-less-4 c = omega (arith, turning (lined (asked (c .before .before)) .before) .loop-test .taken)
-
--- An appended command stands in its slot then, and for any other the entries are as before.
-kept : (c : tie.At-match3-came Inv-loop μ-loop)
-    → (let at = asking (c .before) .loop in c .match3 .entries ≡ entriesAfter (at .entries) (at .tally) (accepted (c .before)))
-kept c =
-    let put : Slot → List Command = λ s. putInto (asking (c .before) .loop .entries) s (accepted (c .before)) in
-    ⊎-elim
-    (λ w. w .3 ∙ ap put (sym (w .1 .given .1) ∙ c .before .slot-for .ensures))
-    (λ w. w .2 ∙ ap put (sym (w .1 .given .1) ∙ c .before .slot-for .ensures))
-    (c .match3 .came)
+loop-less-4 c = omega (arith, turning (lined (c .before .before .before .before .before .before .before .before .before) .before) .loop-test .taken)
 
 loop-again-4 : tie.Need-loop-again-4 Inv-loop μ-loop
 loop-again-4 c =
-    let joined = c .before in
-    let camera = joined .before .before in
-    let decision = camera .before .before in
-    let told = asked (joined .before) in
+    let decision = c .before .before .before in
     let put = decision .before .before .before .before in
+    let told = put .before .before in
     let read = lined told in
     let turn = turning (read .before) in
+    let effect = c .take-effect .ensures in
     turn-accepted (turn .before .loop .inv) (turn .loop-test .taken) (read .before .front .ensures) (says told) (entry (turn .before) .pre .0 .1)
     (told .before .permitted .result) (told .before .permitted .ensures) (told .told-by .ensures) (put .put-record .ensures .1)
-    (decision .decision .given .1) (camera .camera-after .ensures) (kept joined) (c .applied .ensures)
-
-of-parts-requires : tie.Need-of-parts-requires Inv-loop μ-loop
-of-parts-requires c κs = search needs
+    (decision .decision .given .1) (effect .0) (effect .1)
 
 same-length : tie.Need-same-length Inv-loop μ-loop
-same-length c = c .before .before .loop .inv .behind .same
+same-length c = c .before .loop .inv .behind .same
 
 returns : tie.Need-returns Inv-loop μ-loop
 returns c =
-    let begin = entry (c .before .before) in
-    let last = from-parts (begin .args .bench) (begin .args .tally) (begin .pre .1 .1) (c .before .before .loop .inv) in
-    let ended = text-ended last (c .before .loop-test .left) in
-    rw (c .of-parts .ensures) (ended .0 .0, (ended .0 .1, ended .1 .1))
+    let ended = text-ended (c .before .loop .inv) (c .loop-test .left) in
+    (ended .0, (ended .1 .0 .0, ended .1 .1))
 
 pub run-lines-spec : {M : Type 1} → statement M
 run-lines-spec =
@@ -295,15 +239,8 @@ run-lines-spec =
     loop-less-3
     loop-again-3
     enum-known-decision
-    camera-after-requires
-    slot-for-requires
-    enum-known-i
-    mul-entries
-    array-set-from-entries
-    enum-told-4
-    applied-requires
+    take-effect-requires
     loop-less-4
     loop-again-4
-    of-parts-requires
     same-length
     returns)

@@ -1,17 +1,30 @@
--- `store::tally::Tally::appended` meets its contract: one count and one length are written, and a macro with a slot to spare has
--- fewer than 24 entries, so that the count fits.
+-- `store::tally::Tally::appended` meets its contract: one count and one length are written, and an open macro has no more entries than are in use,
+-- so that the count fits.
+use Prim.Native.Nat.{_<_}
+use mathlib.Core.Path.{_≡_, sym, _∙_}
+use mathlib.Core.Bool.{Bool, true}
 use native.Mathlib.Omega.{arith}
+use lib.Dec.{ltb}
 use borrow.Author.Needs.{needs}
-use borrow.Author.Tests.{not-true, not-false}
-use Rattle.store.proofs.Laws.{slot-free}
+use borrow.Author.Tests.{ltb-true, not-true, not-false}
+use Rattle.words.proofs.Tests.{both}
+use Rattle.store.specs.declared.tally.Tally.{Tally}
+use Rattle.store.specs.TallySteps.{openCount, usedBy, takesBy}
+use Rattle.store.proofs.Places.{open-within}
 use Rattle.store.proofs.tally.Tally.appended.Statement.{statement}
 use Rattle.store.proofs.tally.Tally.appended.Tie as tie
 
-has-slot-requires : tie.Need-has-slot-requires
-has-slot-requires c κs = search needs
+-- Where an append is taken, fewer entries are counted than the pool has.
+count-free : (t : Tally) (taken : Bool) → taken ≡ takesBy t → taken ≡ true → openCount t < 192
+count-free t taken is holds =
+    let tests = both (ltb (t .opened) 8) (ltb (usedBy t) 192) (sym is ∙ holds) in
+    omega (arith, ltb-true (usedBy t) 192 (tests .1), open-within (t .counts) (t .closed) (t .opened) (ltb-true (t .opened) 8 (tests .0)))
+
+takes-requires : tie.Need-takes-requires
+takes-requires c κs = search needs
 
 returns : tie.Need-returns
-returns c = let free = c .before .has-slot in rw (← free .ensures, not-true (free .result) (c .if1 .taken))
+returns c = let taken = c .before .takes in rw (← taken .ensures, not-true (taken .result) (c .if1 .taken))
 
 count-at-requires : tie.Need-count-at-requires
 count-at-requires c κs = search needs
@@ -19,8 +32,8 @@ count-at-requires c κs = search needs
 add-count : tie.Need-add-count
 add-count c =
     let self = c .before .before .before .before .before .before .args .self in
-    let free = c .before .before .has-slot in
-    omega (arith, slot-free (self .counts) (self .opened) (free .result) (free .ensures) (not-false (free .result) (c .before .if1 .left)))
+    let taken = c .before .before .takes in
+    omega (arith, count-free self (taken .result) (taken .ensures) (not-false (taken .result) (c .before .if1 .left)))
 
 length-at-requires : tie.Need-length-at-requires
 length-at-requires c κs = search needs
@@ -39,10 +52,10 @@ with-length-requires c κs = search needs
 
 returns-2 : tie.Need-returns-2
 returns-2 c =
-    let free = c .before .before .before .before .before .before .before .before .has-slot in
+    let taken = c .before .before .before .before .before .before .before .before .takes in
     rw (
-      ← free .ensures,
-      not-false (free .result) (c .before .before .before .before .before .before .before .if1 .left),
+      ← taken .ensures,
+      not-false (taken .result) (c .before .before .before .before .before .before .before .if1 .left),
       c .before .with-length .ensures,
       c .before .before .with-count .ensures,
       c .before .before .before .added .ensures,
@@ -55,7 +68,7 @@ pub appended-spec : {M : Type 1} → statement M
 appended-spec =
     tie.close
     (tie.spec
-    has-slot-requires
+    takes-requires
     returns
     count-at-requires
     add-count

@@ -6,7 +6,7 @@ use lib.ListN.{drop}
 use borrow.Author.Needs.{needs}
 use Rattle.wire.specs.Codes.{firstOf}
 use Rattle.store.specs.Checks.{rowsFor}
-use Rattle.store.specs.TallySteps.{openLength, tallyCode}
+use Rattle.store.specs.TallySteps.{usedBy, openLength, tallyCode}
 use Rattle.store.proofs.Laws.{passed-by}
 use Rattle.store.proofs.tally.Tally.permits.Statement.{statement}
 use Rattle.store.proofs.tally.Tally.permits.Tie as tie
@@ -25,7 +25,9 @@ From n c =
     let role = asked c .role-of .result in
     let self = args .self in
     tallyCode self (args .command)
-    ≡ firstOf (drop n (rowsFor (args .command .flag) role (self .opened) (self .closed) (c .count-at .result) (openLength self) (self .running)))
+    ≡ firstOf
+    (drop n
+    (rowsFor (args .command .flag) role (self .opened) (self .closed) (c .count-at .result) (openLength self) (usedBy self) (self .running)))
 
 from-start : (c : tie.After-count-at) → From 0 c
 unfolding tallyCode
@@ -96,11 +98,14 @@ closes-too-long-requires c κs = search needs
 returns-6 : tie.Need-returns-6
 returns-6 c = sym (past-14 (c .before .before .before) ∙ rw (← c .before .before .length-at .ensures, ← c .before .closes-too-long .ensures, c .if6 .taken))
 
+used-requires : tie.Need-used-requires
+used-requires c κs = search needs
+
 permits-entry-requires : tie.Need-permits-entry-requires
 permits-entry-requires c κs = search needs
 
 returns-7 : tie.Need-returns-7
-returns-7 c = c .permits-entry .ensures ∙ sym (past-15 (c .before))
+returns-7 c = c .permits-entry .ensures ∙ rw (c .before .used .ensures) (sym (past-15 (c .before .before)))
 
 pub permits-spec : {M : Type 1} → statement M
 permits-spec =
@@ -121,5 +126,6 @@ permits-spec =
     length-at-requires
     closes-too-long-requires
     returns-6
+    used-requires
     permits-entry-requires
     returns-7)
