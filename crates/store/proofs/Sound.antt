@@ -45,7 +45,7 @@ pub record SoundEntry (s : Store) (m : ℕ) (e : Command) : Type 0 where
   pub allowed : judgeCode e ≡ 0
   pub target : TargetBelow s m (roleOf (e .kind))
 
--- "each closed one has 1 [entry at least] and a length of 1 to 600"
+-- "each closed one has 1 .. and a length of 1 to 600"
 pub record SoundClosed (s : Store) (m : ℕ) : Type 0 where
   pub some : 1 ≤ countOf s m
   pub lasts : 1 ≤ length (writtenOut s m)
