@@ -89,20 +89,37 @@ static void macro_command(struct list *l, unsigned i)
     else append_plain(l, i, true);
 }
 
-/* Eight macros of 24, which take all entries there are, each the last entry of the one above, 600 seconds in all; the highest is started. */
+/* Eight macros of 24, which take all entries there are, each the last entry of the one above; the highest is started. Their waits are 599 seconds, and
+   what lies behind the last of them takes one more. */
 static void deep_list(struct list *l)
 {
     l->size = 0;
     for (unsigned m = 0; m < 8; m++) {
         append(l, 0x7f01, false, 3, m << 24, 0);
         for (unsigned i = 0; i < 24; i++) {
-            if (i == 12) append(l, 0x7f04, true, 3, (m == 7 ? 59u : 52u) << 16, 0);
+            if (i == 12) append(l, 0x7f04, true, 3, (m == 7 ? 74u : 75u) << 16, 0);
             else if (i == 23 && m > 0) append(l, 0x7f03, true, 3, (m - 1) << 24, 0);
             else append_plain(l, m * 24 + i, true);
         }
         append(l, 0x7f02, false, 2, 0, 0);
     }
     append(l, 0x7f03, false, 3, 7u << 24, 0);
+}
+
+/* A macro of 64 entries and a second to wait, run 24 times by a macro that is run 25 times by the one that is started. */
+static void full_list(struct list *l)
+{
+    l->size = 0;
+    append(l, 0x7f01, false, 3, 0, 0);
+    for (unsigned i = 0; i < 64; i++) append_plain(l, i, true);
+    append(l, 0x7f04, true, 3, 1u << 16, 0);
+    append(l, 0x7f02, false, 2, 0, 0);
+    for (unsigned m = 1; m < 3; m++) {
+        append(l, 0x7f01, false, 3, m << 24, 0);
+        for (unsigned i = 0; i < 23 + m; i++) append(l, 0x7f03, true, 3, (m - 1) << 24, 0);
+        append(l, 0x7f02, false, 2, 0, 0);
+    }
+    append(l, 0x7f03, false, 3, 2u << 24, 0);
 }
 
 /* Sixteen commands, sixteen bytes apart: each kind once, and one whose argument is out of range. */
@@ -417,7 +434,7 @@ static void print_growth(struct job *jobs, int n, const char *of, const char *he
     }
 }
 
-enum { ALL = 13, SIZES = 3 };
+enum { ALL = 14, SIZES = 3 };
 
 static void make_jobs(struct job *jobs)
 {
@@ -431,13 +448,15 @@ static void make_jobs(struct job *jobs)
     jobs[7] = run_job("a run of 512 macro commands", macro_command, 512);
     jobs[4].aim = jobs[5].aim = 2.5; /* most of a short run is the judging of the state it starts from */
     jobs[8] = (struct job){ .name = "600 seconds of an eight-deep macro", .which = SECONDS, .units = 600, .aim = 1.5 };
+    jobs[9] = (struct job){ .name = "600 seconds of 64 entries each", .which = SECONDS, .units = 600, .aim = 1.5 };
     deep_list(&jobs[8].kit);
-    typed_jobs(&jobs[9], &jobs[10], &mixed, 512);
-    typed_jobs(&jobs[11], &jobs[12], &bare, 512);
-    jobs[9].name = "assembling 512 mixed commands";
-    jobs[10].name = "listing 512 mixed commands";
-    jobs[11].name = "assembling 512 bare commands";
-    jobs[12].name = "listing 512 bare commands";
+    full_list(&jobs[9].kit);
+    typed_jobs(&jobs[10], &jobs[11], &mixed, 512);
+    typed_jobs(&jobs[12], &jobs[13], &bare, 512);
+    jobs[10].name = "assembling 512 mixed commands";
+    jobs[11].name = "listing 512 mixed commands";
+    jobs[12].name = "assembling 512 bare commands";
+    jobs[13].name = "listing 512 bare commands";
 }
 
 int main(int argc, char **argv)

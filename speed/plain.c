@@ -1,11 +1,11 @@
 /* The bench of 01-scope.md in plain C, written from that page: the state is one struct that is passed by pointer and changed in place.
    It does the same jobs as crates/timing and folds their results in the same way. Typed lists are assembled and listed by the rules of request Q-1;
-   the macros share one pool of entries by those of request Q-9. */
+   the macros share one pool of entries by those of request Q-9, and a second hands over a group of them by those of request Q-2. */
 #include "plain.h"
 #include <stdbool.h>
 #include <string.h>
 
-enum { MACROS = 8, POOL = 192, NONE = 255, LONGEST = 600, FOR_EVER = 65535, LIST = 4096, ROOM = 8192 };
+enum { MACROS = 8, POOL = 192, NONE = 255, LONGEST = 600, GROUP = 64, FOR_EVER = 65535, LIST = 4096, ROOM = 8192 };
 enum { TEXT = 32768, DIGITS = 5, LISTED = 8192 /* above the 7,846 bytes that a list's text has at most */ };
 
 enum kind {
@@ -352,39 +352,95 @@ static unsigned entries_below(const struct bench *b, unsigned n)
     return sum;
 }
 
-/* The seconds of an entry, by the lengths of the smaller macros. */
-static unsigned span(const struct bench *b, const struct command *c, unsigned m, const unsigned *lengths)
+/* How the entries of a macro, its RUNs replaced, fall into seconds. */
+struct span {
+    unsigned waits;       /* the sum of its WAITs; 601 stands for anything above 600 */
+    unsigned first, last; /* entries of its first second, and those behind its last WAIT; both are all entries where it has no WAIT */
+    unsigned most;        /* entries of its fullest second; in these three, 65 stands for anything above 64 */
+    bool waited;          /* whether it has a WAIT */
+};
+
+/* The entries behind the last WAIT take one second more. */
+static unsigned length(const struct span *s)
 {
-    if (c->kind == WAIT) return c->seconds;
-    if (c->kind == RUN) return c->mode < m && b->closed[c->mode] ? lengths[c->mode] : 0;
-    return 1;
+    return s->waits + (s->last > 0);
 }
 
-/* The lengths of the macros below n; 601 stands for anything longer than 600. */
-static void measure(const struct bench *b, unsigned n, unsigned *lengths)
+/* These entries follow: their first second goes on with the last one so far. */
+static void join(struct span *s, const struct span *next)
+{
+    unsigned joined = s->last + next->first;
+    if (!s->waited) s->first = joined;
+    if (joined > s->most) s->most = joined;
+    if (next->most > s->most) s->most = next->most;
+    s->last = next->waited ? next->last : joined;
+    s->waits += next->waits;
+    s->waited |= next->waited;
+}
+
+static unsigned at_most(unsigned value, unsigned limit)
+{
+    return value < limit ? value : limit;
+}
+
+/* The spans of the macros below n. */
+static void measure(const struct bench *b, unsigned n, struct span *spans)
 {
     const struct command *c = b->pool;
     for (unsigned m = 0; m < n; m++) {
-        unsigned sum = 0;
-        for (const struct command *end = c + b->counts[m]; c < end; c++) sum += span(b, c, m, lengths);
-        lengths[m] = sum > LONGEST ? LONGEST + 1 : sum;
+        struct span s = { 0 };
+        for (const struct command *end = c + b->counts[m]; c < end; c++) {
+            switch (c->kind) {
+            case WAIT:
+                s.waits += c->seconds;
+                s.last = 0;
+                s.waited = true;
+                break;
+            case RUN:
+                if (c->mode < m && b->closed[c->mode]) join(&s, &spans[c->mode]);
+                break;
+            default:
+                s.last++;
+                if (!s.waited) s.first++;
+                if (s.last > s.most) s.most = s.last;
+                break;
+            }
+        }
+        s.waits = at_most(s.waits, LONGEST + 1);
+        s.first = at_most(s.first, GROUP + 1);
+        s.last = at_most(s.last, GROUP + 1);
+        s.most = at_most(s.most, GROUP + 1);
+        spans[m] = s;
     }
 }
 
-/* The entry that second k of macro m hands over, or NULL. */
-static const struct command *entry_at(const struct bench *b, unsigned m, unsigned k, const unsigned *lengths)
+/* What a second hands over. */
+struct group {
+    struct command entries[GROUP];
+    unsigned count;
+};
+
+/* Adds the entries of macro m that lie in one second, *ahead seconds from its start. True once a WAIT closes that second; else *ahead is counted from
+   the macro's end. */
+static bool gather(const struct bench *b, unsigned m, unsigned *ahead, const struct span *spans, struct group *g)
 {
     const struct command *c = b->pool + entries_below(b, m);
     for (const struct command *end = c + b->counts[m]; c < end; c++) {
-        unsigned seconds = span(b, c, m, lengths);
-        if (k < seconds) {
-            if (c->kind == WAIT) return NULL;
-            if (c->kind == RUN) return entry_at(b, c->mode, k, lengths);
-            return c;
+        switch (c->kind) {
+        case WAIT:
+            if (*ahead < c->seconds) return true;
+            *ahead -= c->seconds;
+            break;
+        case RUN:
+            if (length(&spans[c->mode]) <= *ahead) *ahead -= spans[c->mode].waits;
+            else if (gather(b, c->mode, ahead, spans, g)) return true;
+            break;
+        default:
+            if (*ahead == 0) g->entries[g->count++] = *c;
+            break;
         }
-        k -= seconds;
     }
-    return NULL;
+    return false;
 }
 
 static bool paced(const struct series *s)
@@ -392,24 +448,25 @@ static bool paced(const struct series *s)
     return s->time == 0 || (s->next >= 1 && s->next <= s->interval);
 }
 
-/* 27: may this state be? The lengths of all macros are worked out on the way. */
-static bool sound(const struct bench *b, unsigned *lengths)
+/* 27: may this state be? The spans of all macros are worked out on the way. */
+static bool sound(const struct bench *b, struct span *spans)
 {
     struct frame f;
     status(b, &f);
     if (!frame_obeys(&f) || !paced(&b->image) || !paced(&b->track)) return false;
     if (b->used > POOL || b->used != entries_below(b, MACROS)) return false;
-    measure(b, MACROS, lengths);
+    measure(b, MACROS, spans);
     const struct command *c = b->pool;
     for (unsigned m = 0; m < MACROS; m++) {
-        if (b->closed[m] && (b->counts[m] < 1 || lengths[m] < 1 || lengths[m] > LONGEST)) return false;
+        unsigned seconds = length(&spans[m]);
+        if (b->closed[m] && (b->counts[m] < 1 || seconds < 1 || seconds > LONGEST || spans[m].most > GROUP)) return false;
         if (!b->closed[m] && b->opened != m && b->counts[m] != 0) return false;
         for (const struct command *end = c + b->counts[m]; c < end; c++) {
             if (!c->flag || judge(c).code != 0) return false;
             if (c->kind == RUN && (c->mode >= m || !b->closed[c->mode])) return false;
         }
     }
-    return b->running == NONE || (b->left >= 1 && b->left <= lengths[b->running]);
+    return b->running == NONE || (b->left >= 1 && b->left <= length(&spans[b->running]));
 }
 
 static void start_series(struct series *s, uint16_t time, uint16_t interval)
@@ -422,7 +479,7 @@ static void start_series(struct series *s, uint16_t time, uint16_t interval)
 /* A command that was accepted and is executed. */
 static void execute(struct bench *b, const struct command *c)
 {
-    unsigned lengths[MACROS];
+    struct span spans[MACROS];
     switch (c->kind) {
     case IMG_PWR: b->power = c->mode == 1; break;
     case IMG_REGION: b->x = c->first; b->y = c->second; break;
@@ -436,9 +493,9 @@ static void execute(struct bench *b, const struct command *c)
     case OPEN: b->opened = c->mode; break;
     case CLOSE: b->closed[b->opened] = true; b->opened = NONE; break;
     case RUN:
-        measure(b, c->mode + 1u, lengths);
+        measure(b, c->mode + 1u, spans);
         b->running = c->mode;
-        b->left = (uint16_t)lengths[c->mode];
+        b->left = (uint16_t)length(&spans[c->mode]);
         break;
     case STOP: b->running = NONE; b->left = 0; break;
     case CLEAR:
@@ -450,17 +507,18 @@ static void execute(struct bench *b, const struct command *c)
     }
 }
 
-/* Codes 11 to 19. */
+/* Codes 11 to 15, 25, 16 to 19. */
 static uint8_t denied(const struct bench *b, const struct command *c)
 {
     if ((c->flag || c->kind == CLOSE) && b->opened == NONE) return 11;
     if (c->kind == OPEN && b->opened != NONE) return 12;
     if (c->kind == OPEN && b->closed[c->mode]) return 13;
     if (c->kind == CLOSE) {
-        unsigned lengths[MACROS];
+        struct span spans[MACROS];
         if (b->counts[b->opened] == 0) return 14;
-        measure(b, b->opened + 1u, lengths);
-        if (lengths[b->opened] > LONGEST) return 15;
+        measure(b, b->opened + 1u, spans);
+        if (length(&spans[b->opened]) > LONGEST) return 15;
+        if (spans[b->opened].most > GROUP) return 25;
     }
     if (c->flag && b->used >= POOL) return 16;
     if (c->flag && c->kind == RUN && c->mode >= b->opened) return 17;
@@ -515,8 +573,8 @@ static uint8_t run(struct bench *b, const uint8_t *kit, size_t kits, const uint8
     records[0] = records[1] = 0;
     if (kits > LIST || pupils > LIST) return 20;
     if (fits < ROOM) return 21;
-    unsigned lengths[MACROS];
-    if (!sound(b, lengths)) return 27;
+    struct span spans[MACROS];
+    if (!sound(b, spans)) return 27;
     records[0] = run_list(b, kit, kits, 1, room);
     records[1] = run_list(b, pupil, pupils, 2, room + 8 * records[0]);
     return 0;
@@ -533,20 +591,20 @@ static void series_second(struct series *s)
     if (s->time != FOR_EVER) s->time--;
 }
 
-/* 27, else a second passes; *handed is what the running macro handed over, or NULL. */
-static uint8_t second(struct bench *b, const struct command **handed)
+/* 27, else a second passes; *handed is what the running macro handed over. */
+static uint8_t second(struct bench *b, struct group *handed)
 {
-    *handed = NULL;
-    unsigned lengths[MACROS];
-    if (!sound(b, lengths)) return 27;
+    handed->count = 0;
+    struct span spans[MACROS];
+    if (!sound(b, spans)) return 27;
     series_second(&b->image);
     series_second(&b->track);
     if (b->running == NONE) return 0;
-    const struct command *c = entry_at(b, b->running, lengths[b->running] - b->left, lengths);
+    unsigned passed = length(&spans[b->running]) - b->left;
+    gather(b, b->running, &passed, spans, handed);
     b->left--;
     if (b->left == 0) b->running = NONE;
-    if (c != NULL) execute(b, c);
-    *handed = c;
+    for (unsigned i = 0; i < handed->count; i++) execute(b, &handed->entries[i]);
     return 0;
 }
 
@@ -811,6 +869,13 @@ static uint64_t with_command(uint64_t sum, const struct command *c)
     return c->flag ? mixed(sum, 1) : sum;
 }
 
+static uint64_t with_group(uint64_t sum, const struct group *g)
+{
+    sum = mixed(sum, g->count);
+    for (unsigned i = 0; i < g->count; i++) sum = with_command(sum, &g->entries[i]);
+    return sum;
+}
+
 static uint64_t with_told(uint64_t sum, struct told t)
 {
     return mixed(mixed(sum, t.code), t.par);
@@ -837,8 +902,8 @@ static uint64_t with_frame(uint64_t sum, const struct frame *f)
 static uint64_t with_status(uint64_t sum, const struct bench *b)
 {
     struct frame f;
-    unsigned lengths[MACROS];
-    if (!sound(b, lengths)) return mixed(sum, 27);
+    struct span spans[MACROS];
+    if (!sound(b, spans)) return mixed(sum, 27);
     status(b, &f);
     return with_frame(sum, &f);
 }
@@ -932,9 +997,9 @@ uint64_t plain_seconds(const uint8_t *list, size_t size, uint8_t *room, size_t f
     for (uint32_t i = 0; i < times; i++) {
         b = start;
         for (uint32_t s = 0; s < seconds; s++) {
-            const struct command *handed;
+            struct group handed;
             second(&b, &handed);
-            sum = handed == NULL ? mixed(sum, 0) : with_command(sum, handed);
+            sum = with_group(sum, &handed);
         }
     }
     return with_status(sum, &b);

@@ -10,13 +10,15 @@ here=$(cd "$(dirname "$0")" && pwd)
 work=$(mktemp -d)
 trap 'rm -rf "$work"' EXIT
 
-# The fixed scripts have about 72,000 answers, so this is some random ones more.
-amount=(--answers 90000 --lists 5 --inputs 5)
+# The fixed scripts have about 83,000 answers, so this is some random ones more.
+amount=(--answers 101000 --lists 5 --inputs 5)
 
 # A mistake may well make a number overflow; that is to show as a difference
 # in the transcript, not as a reference that stops.
 export CARGO_PROFILE_DEV_OVERFLOW_CHECKS=false
 export CARGO_PROFILE_DEV_DEBUG=false
+# Wherever else the caller may have things built.
+export CARGO_TARGET_DIR=$work/target
 
 build() {
     (cd "$work" && cargo build --offline --quiet "$@")

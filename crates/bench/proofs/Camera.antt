@@ -54,7 +54,7 @@ camera-second c good =
 -- An allowed command has no argument out of range.
 pub allowed-range : (c : Command) → judgeCode c ≡ 0 → firstBadIn c ≡ 0
 unfolding judgeCode
-allowed-range c h = eqb-true (firstBadIn c) 0 (not-false (eqb (firstBadIn c) 0) (due-none 0 (argChecks c) refl h .0))
+allowed-range c h = eqb-true (firstBadIn c) 0 (not-false (eqb (firstBadIn c) 0) (due-none (argChecks c) refl h .0))
 
 second-in : (a b : Bool) → _≡_ {A = ℕ} (cond a (cond b 0 2) 1) 0 → b ≡ true
 second-in true true e = refl

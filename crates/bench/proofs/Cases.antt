@@ -29,7 +29,7 @@ use Rattle.text.specs.Assemble.{commandsIn, numbersIn}
 use Rattle.store.specs.Words.{headOf, inserted}
 use Rattle.store.specs.Words.{commandsIn as entriesIn}
 use Rattle.store.specs.Pool.{sizeOf, startOf, between, entriesOf, kept}
-use Rattle.store.specs.WrittenOut.{expand, flatBelow, flat, seconds, writtenOut}
+use Rattle.store.specs.WrittenOut.{expand, flatBelow, flat, seconds, mostIn, writtenOut}
 use Rattle.store.specs.Effects.{storeWith, freshStore, appliedOf}
 use Rattle.store.specs.Sound.{allBelow, allOf, storeSound}
 use Rattle.bench.specs.declared.Bench.{Bench}
@@ -138,6 +138,14 @@ macros =
     ∷ (0x7f030003 ∷ 0x01000000 ∷ 0x7e030003 ∷ [])
     ∷ []
 
+-- OPEN 0; appended WAIT 600, FLUSH.
+abbrev long : List (List ℕ)
+long =
+    (0x7f010003 ∷ 0x00000000 ∷ 0x7f010003 ∷ [])
+    ∷ (0x7f048003 ∷ 0x02580000 ∷ 0x7d5c8003 ∷ [])
+    ∷ (0x015a8002 ∷ 0x015a8002 ∷ [])
+    ∷ []
+
 abbrev pub cases : List Case
 cases =
     -- 015a0002 015a0002: FLUSH, code 0. With flag: 015a8002 015a8002, code 11 on a fresh bench.
@@ -172,12 +180,16 @@ cases =
     ∷ command [] (0x7f048003 ∷ 0x00020000 ∷ 0x7f068003 ∷ []) true (Kind.Wait 2) 11 freshBench
     ∷ command (open3 ∷ []) (0x7f048003 ∷ 0x00020000 ∷ 0x7f068003 ∷ []) true (Kind.Wait 2) 0
     (holding (headOf Form.Wait true ∷ 2 ∷ 0 ∷ []) (0 ∷ 0 ∷ 0 ∷ 1 ∷ 0 ∷ 0 ∷ 0 ∷ 0 ∷ []) 3)
-    -- Macro 0 is FLUSH, WAIT 2: length 3.
-    ∷ lasts macros 0 3
-    -- Macro 1 is RUN 0, power off, RUN 0: length 7, with FLUSH in seconds 1 and 5 and power off in 4.
-    ∷ lasts macros 1 7
-    ∷ hands macros ((Kind.TlmFlush ∷ []) ∷ [] ∷ [] ∷ (Kind.ImgPwr 0 ∷ []) ∷ (Kind.TlmFlush ∷ []) ∷ [] ∷ [] ∷ [] ∷ [])
-    ∷ runs macros (1 ∷ 1 ∷ 1 ∷ 1 ∷ 1 ∷ 1 ∷ 255 ∷ 255 ∷ []) (6 ∷ 5 ∷ 4 ∷ 3 ∷ 2 ∷ 1 ∷ 0 ∷ 0 ∷ [])
+    -- The two macros, as 02, Q-2 has them. Macro 0 is FLUSH, WAIT 2: length 2.
+    ∷ lasts macros 0 2
+    -- Macro 1 is RUN 0, power off, RUN 0: length 4, "with power off and the second FLUSH both in second 3".
+    ∷ lasts macros 1 4
+    ∷ hands macros ((Kind.TlmFlush ∷ []) ∷ [] ∷ (Kind.ImgPwr 0 ∷ Kind.TlmFlush ∷ []) ∷ [] ∷ [] ∷ [])
+    ∷ runs macros (1 ∷ 1 ∷ 1 ∷ 255 ∷ 255 ∷ []) (3 ∷ 2 ∷ 1 ∷ 0 ∷ 0 ∷ [])
+    -- "WAIT 600 with a FLUSH after it still has 601": its CLOSE gets 15. (The macro is macro 0, and stays open.)
+    ∷ lasts long 0 601
+    ∷ command long (0x7f020002 ∷ 0x7f020002 ∷ []) false Kind.Close 15
+    (holding (headOf Form.Wait true ∷ 600 ∷ 0 ∷ headOf Form.TlmFlush true ∷ 0 ∷ 0 ∷ []) (2 ∷ 0 ∷ 0 ∷ 0 ∷ 0 ∷ 0 ∷ 0 ∷ 0 ∷ []) 0)
     -- Q-1: "Empty lines and lines that begin with `#` carry no command but are counted." (No macro is open, so the append on line 4 gets 11.)
     ∷ typed "# my first list\nimg_region 512 256\n\n+tlm_flush\n" (recordBytes 2 0 0 2 ++ recordBytes 2 11 0 4)
     ∷ []
@@ -189,7 +201,7 @@ a also b = (a, b)
 
 pub cases-hold : Holds cases
 unfolding bytesOf readOf sumOf commandBytes judgeCode ofBits toBits frameRule secondOf inserted entriesIn sizeOf startOf between entriesOf kept
-    expand flatBelow flat seconds writtenOut appliedOf allBelow allOf storeSound benchSound carryOut carryOutBytes secondAt linesOf wordsOf sameText
+    expand flatBelow flat seconds mostIn writtenOut appliedOf allBelow allOf storeSound benchSound carryOut carryOutBytes secondAt linesOf wordsOf sameText
     digitsIn wholeOf formNamed typedAs lineOf commandsIn numbersIn listBytes spanOf rests taken runRests
 cases-hold =
     (refl, refl, refl)
@@ -215,5 +227,7 @@ cases-hold =
     also refl
     also refl
     also (refl, refl)
+    also refl
+    also (refl, refl, refl)
     also refl
     also tt

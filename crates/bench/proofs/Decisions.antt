@@ -37,12 +37,13 @@ denial-none c Denial.AnotherOpen = refl
 denial-none c Denial.AlreadyClosed = refl
 denial-none c Denial.NoEntries = refl
 denial-none c Denial.TooLong = refl
+denial-none c Denial.TooMany = refl
 denial-none c Denial.NoneFree = refl
 denial-none c Denial.NotBelow = refl
 denial-none c Denial.NotClosed = refl
 denial-none c Denial.Running = refl
 
--- Rows 11 to 19: denied, or granted.
+-- The store's rows: denied, or granted.
 pub denied : (t : Tally) (c : Command) (d : Denial) → toldPermit (Permit.Denied d) ≡ tallyCode t c
     → none (toldWith (codeOf d) 0) ≡ permittedBy t c
 unfolding permittedBy
@@ -63,7 +64,7 @@ read-tally : (t : Tally) (s : List ℕ)
 unfolding readCode tallyCode
 read-tally t s = first-append (readChecks s) (tallyChecks t (said s)) (read-coded s)
 
--- A decoded command: refused by 8 to 10, or what rows 11 to 19 say.
+-- A decoded command: refused by 8 to 10, or what the store's rows say.
 pub judged-refused : (t : Tally) (c : Command) (r : Refusal) → toldOf r ≡ judged c → none (toldOf r) ≡ decidedBy t c
 unfolding decidedBy
 judged-refused t c r e =
@@ -78,7 +79,7 @@ judged-passed t c e =
     let code : firstOf (argChecks c ++ tallyChecks t c) ≡ tallyCode t c = rw (judge-tally t c, zero) in
     ap (λ n. answerFor n c) (sym code)
 
--- The command at the front of some bytes: refused by 1 to 10, or what rows 11 to 19 say of the command that was read.
+-- The command at the front of some bytes: refused by 1 to 10, or what the store's rows say of the command that was read.
 pub read-refused : (t : Tally) (s : List ℕ) (r : Refusal) → answerOf (Reading.Refused r) ≡ readOf s → none (toldOf r) ≡ decidedIn t s
 unfolding decidedIn readOf
 read-refused t s r e =

@@ -176,8 +176,9 @@ demand-1-list-text raw room refused = texts.refused-listing raw room refused
 -- checks, with the sender's own line number. Commands and status frames can be written as well as read, and come back equal."
 
 -- "A command is taken exactly when the CRISP guide's tables and our rules allow it."
--- `commandChecks` are rows 8 to 19 in their order, and `bytesChecks` rows 1 to 19; the guide's tables are in wire, specs/Table. On a sound bench a
--- command is accepted and takes its effect exactly when no row holds. (Every bench that can be reached is sound: see the end of this file.)
+-- `commandChecks` are rows 8 to 19 in their order, 25 behind 15, and `bytesChecks` rows 1 to 19 likewise; the guide's tables are in wire, specs/Table. On
+-- a sound bench a command is accepted and takes its effect exactly when no row holds. (Every bench that can be reached is sound: see the end of this
+-- file.)
 pub demand-2-taken : (b : Bench) → benchSound b ≡ true → (c : Command)
     → (carryOut b c ≡ record { told = toldWith 0 0; bench = effectOf b c }) ↔ NoneDue (commandChecks b c)
 demand-2-taken b sound c = rows.command-taken b sound c
@@ -270,7 +271,7 @@ demand-2-parameter-typed-kit b good kit text room accepted k there =
     let carries = demand-2-typed-kit b good kit text room accepted k there in
     rw (carries .code, carries .par) (rows.bytes-parameter (after b (map bytes (take k (rests kit)))) (restAt kit k))
 
--- A typed command passed rows 1 to 10 as its text was judged: its record has 0 or a code from 11 to 19, and no parameter.
+-- A typed command passed rows 1 to 10 as its text was judged: its record has 0, a code from 11 to 19 or 25, and no parameter.
 pub demand-2-typed-codes : (b : Bench) (kit text room : List ℕ) → typedOf b kit text room .found .told .code ≡ 0
     → (k : ℕ) → k < length (rests (bytesIn text))
     → let bytes = recordAt (typedRoom b kit text room) (length (rests kit) + k) in reports.OfStore (toldWith (byteAt bytes 1) (byteAt bytes 2))
@@ -328,6 +329,8 @@ demand-2-text-back text room room₁ room₂ done roomy enough = texts.assembled
 -- meanwhile, second k hands over entry k of its written-out list, whichever other commands arrive between the seconds. It is busy until that list has
 -- ended, then idle until a macro is started again. The length is between 1 and 600 seconds, and the seconds left in the status frame, taken as
 -- second k ends, are that length less k, for k up to it."
+-- Since request Q-2 an entry of the written-out list is a group of commands: "demand 3 then reads: second k hands over group k, in order". What a group
+-- is, and that the length is the sum of the waits, is said in store, proofs/WrittenOut.
 
 -- What a bench says, and the bytes of the status frame that it shows: macro m runs, or none where m is 255, and n seconds are left.
 pub record Says (b : Bench) (m n : ℕ) : Type 0 where
@@ -337,7 +340,7 @@ pub record Says (b : Bench) (m n : ℕ) : Type 0 where
   pub byte26 : byteAt (frameBytes (statusOf b)) 26 ≡ m
   pub bytes28-29 : halfAt (frameBytes (statusOf b)) 28 ≡ n
 
--- What the next second hands over: no kind, or one.
+-- What the next second hands over: these kinds, in order.
 pub record Hands (b : Bench) (ks : List Kind) : Type 0 where
   pub code : secondAt b .told .code ≡ 0
   pub handed : secondAt b .handed ≡ ks
@@ -352,15 +355,15 @@ pub record UpTo (k : ℕ) (start : Bench) (es : List Event) : Type 0 where
   pub seconds : secondsIn es + 1 ≡ k
   pub no-stop : acceptsAny isStop start es ≡ false
 
--- Entry k of a written-out list, counted from 1.
-abbrev pub entry : List (List Kind) → ℕ → List Kind
-entry w k = getD w (k - 1) []
+-- Group k of a written-out list, counted from 1.
+abbrev pub group : List (List Kind) → ℕ → List Kind
+group w k = getD w (k - 1) []
 
 -- What is demanded of a run of macro m, whose written-out list was w as it started.
 pub record Demand3 (m : ℕ) (w : List (List Kind)) (start : Bench) : Type 0 where
-  -- "Unless a stop command is accepted meanwhile, second k hands over entry k of its written-out list, whichever other commands arrive between the
-  -- seconds."
-  pub hands : (k : ℕ) (es : List Event) → UpTo k start es → k ≤ length w → Hands (after start es) (entry w k)
+  -- "Unless a stop command is accepted meanwhile, second k hands over" group k, in order, "of its written-out list, whichever other commands arrive
+  -- between the seconds."
+  pub hands : (k : ℕ) (es : List Event) → UpTo k start es → k ≤ length w → Hands (after start es) (group w k)
   -- "It is busy until that list has ended,": up to second k it runs, and the seconds from k on are left.
   pub busy : (k : ℕ) (es : List Event) → UpTo k start es → k ≤ length w → Says (after start es) m (length w - (k - 1))
   -- "then idle until a macro is started again.": whatever events follow the last second, STOPs too, as long as no RUN is accepted.

@@ -11,17 +11,18 @@ use Rattle.camera.specs.Series.{nextHolds}
 use Rattle.camera.specs.Camera.{cameraSecond}
 use Rattle.store.specs.declared.Store.{Store}
 use Rattle.store.specs.declared.Step.{Step}
-use Rattle.store.specs.declared.lookup.Handed.{Handed}
+use Rattle.store.specs.declared.groups.Group.{Group}
 use Rattle.store.specs.declared.tally.Survey.{Survey}
 use Rattle.store.specs.Pool.{idle}
-use Rattle.store.specs.Effects.{storeWith, handedOf, nextEntry, afterSecond}
+use Rattle.store.specs.Effects.{storeWith, groupOf, kindsIn, nextGroup, afterSecond}
 use Rattle.store.specs.Sound.{storeSound}
 use Rattle.store.specs.TallySteps.{freeBy, surveyOf}
-use Rattle.store.specs.SecondSteps.{Stepped, stepOf, steppedOf}
+use Rattle.store.specs.SecondSteps.{stepWith, steppedOf}
 use Rattle.bench.specs.declared.Bench.{Bench}
+use Rattle.bench.specs.declared.Passed.{Passed}
 use Rattle.bench.specs.declared.Works.{Works}
 use Rattle.bench.specs.Status.{statusOf, rulesHold, benchSound, statusAt, freeAt}
-use Rattle.bench.specs.Second.{executedAll, secondAt}
+use Rattle.bench.specs.Second.{SecondTold, passedOf, executedAll, secondAt}
 use Rattle.bench.specs.Steps.{worksOf, benchOf, surveyed, stayedAt}
 
 -- What is at work of a bench is, on the bench's own pool, that bench; so what is told of it is told of the bench.
@@ -80,15 +81,25 @@ pub no-second : (b : Bench) → benchSound b ≡ false → stayedAt b ≡ second
 unfolding secondAt
 no-second b unsound = rw unsound
 
+-- Nothing is handed over in it.
+pub none-handed : (b : Bench) (group : Group) → group ≡ groupOf []
+    → (record { told = toldWith 27 0; bench = b; handed = kindsIn group } ≡ stayedAt b) × (group ≡ groupOf [])
+none-handed b group none = (rw none, none)
+
+-- So what is told of such a second is told of it.
+pub stayed-told : (b : Bench) (r : Passed) → (passedOf r ≡ stayedAt b) × (r .group ≡ groupOf []) → stayedAt b ≡ secondAt b
+    → (passedOf r ≡ secondAt b) × (r .group ≡ groupOf (secondAt b .handed))
+stayed-told b r stays same = (stays .0 ∙ same, stays .1 ∙ ap (λ (t : SecondTold). groupOf (t .handed)) same)
+
 -- The camera of a second: each series first, then what was handed over.
-pub series-first : (camera stepped done : Camera) (handed : Handed) → stepped ≡ cameraSecond camera → done ≡ executedAll stepped (handedOf handed)
-    → done ≡ executedAll (cameraSecond camera) (handedOf handed)
-series-first camera stepped done handed series executed = executed ∙ ap (λ (k : Camera). executedAll k (handedOf handed)) series
+pub series-first : (camera stepped done : Camera) (group : Group) → stepped ≡ cameraSecond camera → done ≡ executedAll stepped (kindsIn group)
+    → done ≡ executedAll (cameraSecond camera) (kindsIn group)
+series-first camera stepped done group series executed = executed ∙ ap (λ (k : Camera). executedAll k (kindsIn group)) series
 
 -- A second of a store tells whether the store is sound.
-step-sound : (s : Store) (step : Step) → stepOf step ≡ steppedOf s → step .sound ≡ storeSound s
+step-sound : (s : Store) (step : Step) → step ≡ steppedOf s → step .sound ≡ storeSound s
 unfolding steppedOf
-step-sound s step e = ap (λ (r : Stepped). r .sound) e ∙ go (storeSound s) refl
+step-sound s step e = ap (λ (r : Step). r .sound) e ∙ go (storeSound s) refl
   where
     go : (sound : Bool) → storeSound s ≡ sound → steppedOf s .sound ≡ storeSound s
     go true is = rw is
@@ -104,29 +115,37 @@ counted-on s = go (idle s) refl
     go true is = rw is
     go false is = rw is
 
--- A second of a bench whose rules hold: 27 where its store is not sound; else the series, then what the store hands over.
-module _ (b : Bench) (step : Step) (rules : rulesHold b ≡ true) (stepped : stepOf step ≡ steppedOf (b .store)) where
+-- A second of a bench whose rules hold: 27 where its store is not sound; else the series, then what the store hands over. A sound store's group says
+-- the kinds that it was made of.
+module _ (b : Bench) (step : Step) (rules : rulesHold b ≡ true) (stepped : step ≡ steppedOf (b .store)) where
   pub no-step : step .sound ≡ false → stayedAt b ≡ secondAt b
   no-step e = no-second b (by-store b rules ∙ sym (step-sound (b .store) step stepped) ∙ e)
 
-  pub second-passed : (done : Camera) → step .sound ≡ true → done ≡ executedAll (cameraSecond (b .camera)) (handedOf (step .handed))
-      → record {
-        told = toldWith 0 0;
-        bench = record {
-          camera = done;
-          store = storeWith (b .store .pool) (b .store .counts) (b .store .closed) (b .store .opened) (step .running) (step .left);
-        };
-        handed = handedOf (step .handed);
-      } ≡ secondAt b
-  unfolding secondAt steppedOf
-  second-passed done e executed =
-      let s = b .store in
-      let store : storeSound s ≡ true = sym (step-sound s step stepped) ∙ e in
-      let sound : benchSound b ≡ true = by-store b rules ∙ store in
-      let told : stepOf step ≡ record { sound = true; running = afterSecond s .running; left = afterSecond s .left; handed = nextEntry s } =
-      rw store at stepped
-      in
-      let running : step .running ≡ afterSecond s .running = ap (λ (r : Stepped). r .running) told in
-      let left : step .left ≡ afterSecond s .left = ap (λ (r : Stepped). r .left) told in
-      let handed : handedOf (step .handed) ≡ nextEntry s = ap (λ (r : Stepped). r .handed) told in
-      rw (executed, handed, running, left, counted-on s, sound)
+  module _ (e : step .sound ≡ true) (says : benchSound b ≡ true → kindsIn (groupOf (nextGroup (b .store))) ≡ nextGroup (b .store)) where
+    sound : benchSound b ≡ true
+    sound = by-store b rules ∙ sym (step-sound (b .store) step stepped) ∙ e
+
+    told : step ≡ stepWith true (afterSecond (b .store) .running) (afterSecond (b .store) .left) (groupOf (nextGroup (b .store)))
+    unfolding steppedOf
+    told = rw (sym (step-sound (b .store) step stepped) ∙ e) at stepped
+
+    pub group-passed : step .group ≡ groupOf (secondAt b .handed)
+    unfolding secondAt
+    group-passed = ap (λ (r : Step). r .group) told ∙ rw sound
+
+    pub second-passed : (done : Camera) → done ≡ executedAll (cameraSecond (b .camera)) (kindsIn (step .group))
+        → record {
+          told = toldWith 0 0;
+          bench = record {
+            camera = done;
+            store = storeWith (b .store .pool) (b .store .counts) (b .store .closed) (b .store .opened) (step .running) (step .left);
+          };
+          handed = kindsIn (step .group);
+        } ≡ secondAt b
+    unfolding secondAt
+    second-passed done executed =
+        let s = b .store in
+        let running : step .running ≡ afterSecond s .running = ap (λ (r : Step). r .running) told in
+        let left : step .left ≡ afterSecond s .left = ap (λ (r : Step). r .left) told in
+        let handed : kindsIn (step .group) ≡ nextGroup s = ap (λ (r : Step). kindsIn (r .group)) told ∙ says sound in
+        rw (executed, handed, running, left, counted-on s, sound)

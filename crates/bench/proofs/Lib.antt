@@ -23,6 +23,7 @@ pub mod Own
 mod Decisions
 mod Shapes
 mod Judging
+mod Executing
 mod Listing
 mod RawList
 mod TypedList

@@ -21,7 +21,7 @@ use Rattle.store.specs.Roles.{isRun, isStop}
 use Rattle.store.specs.Pool.{isClosed}
 use Rattle.store.specs.WrittenOut.{writtenOut}
 use Rattle.store.specs.Checks.{permitCode}
-use Rattle.store.specs.Effects.{nextEntry, afterSecond}
+use Rattle.store.specs.Effects.{nextGroup, afterSecond}
 use Rattle.store.proofs.Sound.{closed-small}
 use Rattle.store.proofs.Running.{RunOf, run-starts, run-stays, RunSecond, run-second, applied-idle, second-idle}
 use Rattle.bench.specs.declared.Bench.{Bench}
@@ -69,7 +69,7 @@ module _ (test : Role → Bool) (P : Bench → Type 0)
   typed-keeps b good holds kit text room none =
       by-typed P b kit text room holds (λ zero. turns-keep b good holds (rests kit ++ rests (bytesIn text)) (rw zero at none))
 
--- An accepted command that is no STOP leaves a running macro as it was, and a second takes it one entry on.
+-- An accepted command that is no STOP leaves a running macro as it was, and a second takes it one group on.
 module _ (m : ℕ) (w : List (List Kind)) (k : ℕ) where
   effect-stays : (b : Bench) → GoodBench b → Runs m w k b → (c : Command) → Accepted b c → executes isStop c ≡ false → Runs m w k (effectOf b c)
   effect-stays b good runs c passed other = run-stays (b .store) (good-store b good) m w k runs c (passed .judge) (passed .permit) other
@@ -126,7 +126,7 @@ stays-idle b good free (e ∷ es) none =
     stays-idle (afterOne b e) (event-keeps b good e) (event-idle b good free e (parts .0)) es (parts .1)
 
 -- What a second of a sound bench hands over: nothing where it is idle.
-pub handed-is : (b : Bench) → GoodBench b → secondAt b .handed ≡ nextEntry (b .store)
+pub handed-is : (b : Bench) → GoodBench b → secondAt b .handed ≡ nextGroup (b .store)
 unfolding secondAt
 handed-is b good = rw (good .sound)
 

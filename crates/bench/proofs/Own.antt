@@ -1,4 +1,4 @@
--- What becomes of a command depends on its own bytes alone, and not on what follows them: rows 1 to 10 read no further, and rows 11 to 19 ask for the
+-- What becomes of a command depends on its own bytes alone, and not on what follows them: rows 1 to 10 read no further, and the store's rows ask for the
 -- command that was read.
 use Prim.Native.Nat.{ℕ}
 use mathlib.Core.Path.{_≡_, refl, sym, ap, _∙_}
@@ -16,7 +16,7 @@ use Rattle.bench.specs.declared.Bench.{Bench}
 use Rattle.bench.specs.Carry.{Outcome, outcomeFor, bytesChecks, taken}
 use Rattle.bench.proofs.Outcomes.{left, read-then}
 
--- What rows 11 to 19 say of a command that was read.
+-- What the store's rows say of a command that was read.
 abbrev permitted : Bench → Command → Outcome
 permitted b c = outcomeFor (permitCode (b .store) c) b c
 
@@ -24,7 +24,7 @@ permitted b c = outcomeFor (permitCode (b .store) c) b c
 abbrev onReading : Bench → Answer → Outcome
 onReading b a = elim (a .taken) [ [] ↦ left (a .told) b | c ∷ cs ↦ permitted b c ]
 
--- Where rows 1 to 10 pass, rows 11 to 19 say it.
+-- Where rows 1 to 10 pass, the store's rows say it.
 read-passed : (b : Bench) (s : List ℕ) → readCode s ≡ 0 → permitted b (said s) ≡ taken b s
 unfolding taken
 read-passed b s none =

@@ -165,7 +165,7 @@ pub record Passed (b : Bench) (kit pupil room : List ℕ) : Type 0 where
 pub passed : (b : Bench) (kit pupil room : List ℕ) → runOf b kit pupil room .code ≡ 0 → Passed b kit pupil room
 unfolding runOf runCode
 passed b kit pupil room accepted =
-    let none = due-none 0 (runChecks b kit pupil room) refl accepted in
+    let none = due-none (runChecks b kit pupil room) refl accepted in
     let short = neither (ltb 4096 (length kit)) (ltb 4096 (length pupil)) (none .0) in
     record {
       kit-short = ltb-false 4096 (length kit) (short .0);

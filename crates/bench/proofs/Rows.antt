@@ -1,5 +1,5 @@
--- The rows of 01's codes as each call tries them. Carrying out tries, on a sound bench, rows 8 to 19 or, from bytes, 1 to 19, whose codes rise; on
--- any other bench row 27 is the first. The other calls of a bench follow, and the writer of its records.
+-- The rows of 01's codes as each call tries them. Carrying out tries, on a sound bench, rows 8 to 19 or, from bytes, 1 to 19, with 25 behind 15, and no
+-- two of them have one code; on any other bench row 27 is the first. The other calls of a bench follow, and the writer of its records.
 use Prim.Native.Nat.{ℕ, suc, _≤_}
 use mathlib.Core.Path.{_≡_, refl, sym, ap, subst}
 use mathlib.Core.Logic.{_↔_, _≢_}
@@ -16,8 +16,8 @@ use Rattle.wire.specs.declared.kinds.Command.{Command}
 use Rattle.wire.specs.Codes.{Check, _when_, firstOf}
 use Rattle.wire.specs.Table.{ruleOf}
 use Rattle.wire.specs.Judge.{toldWith, argChecks}
-use Rattle.wire.specs.Read.{readChecks, decodeChecks, opcodeOf, flagOf, lengthOf, thirdWord, said}
-use Rattle.wire.proofs.Order.{NoneDue, Order, order, rising}
+use Rattle.wire.specs.Read.{reachChecks, sumDiffers, decodeChecks, opcodeOf, flagOf, lengthOf, thirdWord, readChecks, said}
+use Rattle.wire.proofs.Order.{NoneDue, Order, order, apart}
 use Rattle.wire.proofs.Parameters.{Parameter, RangeRow, parameter, range-args, range-read, range-none, range-append}
 use Rattle.report.specs.Record.{putCode}
 use Rattle.text.specs.declared.names.Named.{Named}
@@ -50,18 +50,21 @@ pub bytes-code : (b : Bench) (s : List ℕ) → benchSound b ≡ true → carryO
 unfolding carryOutBytes
 bytes-code b s sound = carry-bytes-code b s sound
 
--- The codes rise, so each says which row was the first; and none is above 19.
+-- The codes differ, so each says which row was the first; and none is above 25.
 abbrev upTo : ℕ → List Check → Bool
 upTo n [] = true
 upTo n (c ∷ cs) = leb (c .code) n && upTo n cs
 
-bytes-rise : (b : Bench) (s : List ℕ) → (rising 0 (bytesChecks b s) ≡ true) × (upTo 19 (bytesChecks b s) ≡ true)
-bytes-rise b s = go (ruleOf (opcodeOf s))
+bytes-apart : (b : Bench) (s : List ℕ) → (apart (bytesChecks b s) ≡ true) × (upTo 25 (bytesChecks b s) ≡ true)
+bytes-apart b s = go (ruleOf (opcodeOf s))
   where
-    later : Found → List Check
-    later found = decodeChecks found (flagOf s) (lengthOf s) (wordAt s 4) (thirdWord s (lengthOf s)) ++ storeChecks (b .store) (said s)
+    whole : Found → List Check
+    whole found = 4 when sumDiffers s (lengthOf s) ∷ decodeChecks found (flagOf s) (lengthOf s) (wordAt s 4) (thirdWord s (lengthOf s))
 
-    go : (found : Found) → (rising 4 (later found) ≡ true) × (upTo 19 (later found) ≡ true)
+    all : Found → List Check
+    all found = (reachChecks s ++ whole found) ++ storeChecks (b .store) (said s)
+
+    go : (found : Found) → (apart (all found) ≡ true) × (upTo 25 (all found) ≡ true)
     go (Found.Known form length) = (refl, refl)
     go Found.Unknown = (refl, refl)
 
@@ -69,7 +72,7 @@ pub command-order : (b : Bench) → benchSound b ≡ true → (c : Command) → 
 command-order b sound c = subst (Order (commandChecks b c)) (sym (command-code b c sound)) (order (commandChecks b c) refl)
 
 pub bytes-order : (b : Bench) → benchSound b ≡ true → (s : List ℕ) → Order (bytesChecks b s) (carryOutBytes b s .told .code)
-bytes-order b sound s = subst (Order (bytesChecks b s)) (sym (bytes-code b s sound)) (order (bytesChecks b s) (bytes-rise b s .0))
+bytes-order b sound s = subst (Order (bytesChecks b s)) (sym (bytes-code b s sound)) (order (bytesChecks b s) (bytes-apart b s .0))
 
 first-upTo : (n : ℕ) (cs : List Check) → upTo n cs ≡ true → firstOf cs ≤ n
 first-upTo n [] h = omega arith
@@ -81,11 +84,11 @@ first-upTo n (c ∷ cs) h =
     go true own rest = own
     go false own rest = rest
 
-pub command-most : (b : Bench) → benchSound b ≡ true → (c : Command) → carryOut b c .told .code ≤ 19
-command-most b sound c = rw (command-code b c sound) (first-upTo 19 (commandChecks b c) refl)
+pub command-most : (b : Bench) → benchSound b ≡ true → (c : Command) → carryOut b c .told .code ≤ 25
+command-most b sound c = rw (command-code b c sound) (first-upTo 25 (commandChecks b c) refl)
 
-pub bytes-most : (b : Bench) → benchSound b ≡ true → (s : List ℕ) → carryOutBytes b s .told .code ≤ 19
-bytes-most b sound s = rw (bytes-code b s sound) (first-upTo 19 (bytesChecks b s) (bytes-rise b s .1))
+pub bytes-most : (b : Bench) → benchSound b ≡ true → (s : List ℕ) → carryOutBytes b s .told .code ≤ 25
+bytes-most b sound s = rw (bytes-code b s sound) (first-upTo 25 (bytesChecks b s) (bytes-apart b s .1))
 
 -- Where no row holds the command is taken: code 0, and its effect.
 pub command-taken : (b : Bench) → benchSound b ≡ true → (c : Command) → (carryOut b c ≡ takenAs b c) ↔ NoneDue (commandChecks b c)

@@ -2,12 +2,11 @@
 -- (That a time of 65535 does not count down is `for-ever` of camera, proofs/Images.)
 use Prim.Native.Nat.{ℕ, _+_, _%_, _<_}
 use mathlib.Core.Path.{_≡_, refl, ap, _∙_}
-use mathlib.Core.List.{List, [], _∷_}
+use mathlib.Core.List.{List, [], _∷_, _++_}
 use mathlib.Core.Bool.{true}
 use Rattle.wire.specs.declared.kinds.Kind.{Kind}
 use Rattle.camera.specs.declared.Series.{Series}
 use Rattle.camera.specs.declared.Camera.{Camera}
-use Rattle.camera.specs.Series.{secondOf}
 use Rattle.camera.specs.Camera.{executedOf, cameraSecond}
 use Rattle.camera.proofs.Images.{counting}
 use Rattle.bench.specs.declared.Bench.{Bench}
@@ -43,8 +42,9 @@ executing-all c (k ∷ ks) =
     let first = executing c k in
     record { images = rest .images ∙ first .images; tracked = rest .tracked ∙ first .tracked }
 
--- "First each series ..; second .. the next entry .. is handed over and executed".
-in-order : (b : Bench) → benchSound b ≡ true → secondAt b .bench .camera ≡ executedAll (cameraSecond (b .camera)) (secondAt b .handed)
+-- "First each series ..; second .. is handed over and executed": the camera after a second is the series' step, and then the group's commands one
+-- after another.
+pub in-order : (b : Bench) → benchSound b ≡ true → secondAt b .bench .camera ≡ executedAll (cameraSecond (b .camera)) (secondAt b .handed)
 unfolding secondAt
 in-order b sound = rw sound
 
@@ -52,11 +52,20 @@ in-order b sound = rw sound
 pub counts-first : (b : Bench) → benchSound b ≡ true → SameCounts (secondAt b .bench .camera) (cameraSecond (b .camera))
 counts-first b sound = rw (in-order b sound) (executing-all (cameraSecond (b .camera)) (secondAt b .handed))
 
--- .. and an image that was asked for is counted one second later.
-pub one-later : (b : Bench) (time interval : ℕ) → benchSound b ≡ true → benchSound (secondAt b .bench) ≡ true
-    → secondAt b .handed ≡ Kind.ImgImage time interval ∷ [] → 0 < time
+-- .. and an image that was asked for, by the last command of the group, is counted one second later.
+executed-last : (c : Camera) (ks : List Kind) (k : Kind) → executedAll c (ks ++ (k ∷ [])) ≡ executedOf (executedAll c ks) k
+executed-last c [] k = refl
+executed-last c (x ∷ ks) k = executed-last (executedOf c x) ks k
+
+pub one-later : (b : Bench) (ks : List Kind) (time interval : ℕ) → benchSound b ≡ true → benchSound (secondAt b .bench) ≡ true
+    → secondAt b .handed ≡ ks ++ (Kind.ImgImage time interval ∷ []) → 0 < time
     → secondAt (secondAt b .bench) .bench .camera .image .count ≡ (secondAt b .bench .camera .image .count + 1) % 65536
-one-later b time interval sound next handed h =
-    let started : secondAt b .bench .camera ≡ executedOf (cameraSecond (b .camera)) (Kind.ImgImage time interval) = in-order b sound ∙ rw handed in
+one-later b ks time interval sound next handed h =
+    let before : Camera = executedAll (cameraSecond (b .camera)) ks in
+    let started : secondAt b .bench .camera ≡ executedOf before (Kind.ImgImage time interval) =
+    in-order b sound
+    ∙ ap (executedAll (cameraSecond (b .camera))) handed
+    ∙ executed-last (cameraSecond (b .camera)) ks (Kind.ImgImage time interval)
+    in
     counts-first (secondAt b .bench) next .images
-    ∙ rw started (ap (λ (s : Series). s .count) (counting time interval (secondOf (b .camera .image) .count) h))
+    ∙ rw started (ap (λ (s : Series). s .count) (counting time interval (before .image .count) h))

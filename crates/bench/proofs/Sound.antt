@@ -24,7 +24,7 @@ use Rattle.camera.specs.Camera.{cameraSecond}
 use Rattle.walk.specs.Walk.{rests}
 use Rattle.text.specs.Assemble.{bytesIn}
 use Rattle.store.specs.Checks.{permitCode}
-use Rattle.store.specs.Effects.{nextEntry}
+use Rattle.store.specs.Effects.{nextGroup}
 use Rattle.store.specs.Sound.{storeSound}
 use Rattle.store.proofs.Sound.{Shaped, Marks, Good, good-of, of-sound, fresh-good, applied-keeps, second-keeps}
 use Rattle.store.proofs.Handed.{handed-plainly}
@@ -130,7 +130,7 @@ good-store b good = facts-of b good .store
 pub fresh-sound : GoodBench freshBench
 fresh-sound = of-facts freshBench (record { camera = fresh-camera; store = fresh-good })
 
--- A command that is accepted passed rows 8 to 10 and rows 11 to 19.
+-- A command that is accepted passed rows 8 to 10 and the store's rows.
 pub record Accepted (b : Bench) (c : Command) : Type 0 where
   pub judge : judgeCode c ≡ 0
   pub permit : permitCode (b .store) c ≡ 0
@@ -217,7 +217,7 @@ second-sound b good =
     let plain = handed-plainly (b .store) (h .store) in
     of-facts (benchAfter b)
     (record {
-      camera = handed-good (cameraSecond (b .camera)) (camera-second (b .camera) (h .camera)) (nextEntry (b .store)) plain;
+      camera = handed-good (cameraSecond (b .camera)) (camera-second (b .camera) (h .camera)) (nextGroup (b .store)) plain;
       store = second-keeps (b .store) (h .store);
     })
 

@@ -164,7 +164,7 @@ module _ {b₀ : Bench} {text room₀ room : List ℕ} {w : Works} {pool : List 
           (decided : decisionOf decision ≡ permittedBy (w .tally) c)
           (tells : told ≡ decisionOf decision .told)
           (put : part ≡ written (recordBytes 2 (told .code) (told .par) (number + 1)) (take (length room - n * 8) (drop (n * 8) room))) where
-        -- Rows 1 to 10 passed, so that rows 11 to 19 decide.
+        -- Rows 1 to 10 passed, so that the store's rows decide.
         whole : decisionOf decision ≡ decidedIn (w .tally) own
         whole = decided ∙ read-passed (w .tally) own c (sym (reads-listed c (commandsIn later) (allowed .0 .0) (allowed .0 .1)))
 

@@ -4,11 +4,11 @@ use Prim.Native.Nat.{ℕ, zero, suc, _+_, _*_, _-_, _≤_, _<_}
 use mathlib.Core.Path.{_≡_, refl, sym, ap, _∙_}
 use mathlib.Core.Logic.{_⊎_, inl, inr, _≢_}
 use mathlib.Core.List.{List, [], _∷_, _++_}
-use mathlib.Core.Bool.{Bool, true, false, cond, _||_, _&&_}
+use mathlib.Core.Bool.{Bool, true, false, cond, _||_, _&&_, false≢true}
 use native.Mathlib.Omega.{arith}
 use lib.ListN.{length, getD, take, drop}
 use lib.Dec.{eqb, leb, ltb}
-use borrow.Author.Tests.{ltb-false, le-ltb, leb-true, ne-eqb, not-false}
+use borrow.Author.Tests.{ltb-false, le-ltb, ne-eqb, not-false}
 use Rattle.words.proofs.Tests.{neither, both}
 use Rattle.words.specs.BigEndian.{wordAt, written}
 use Rattle.wire.specs.declared.judging.Told.{Told}
@@ -156,25 +156,27 @@ same-run b kit text room accepted =
         both-left b kit (lineNumbers text) (bytesIn text) (typed-even text) ∙ sym (run-left b kit (bytesIn text) room code)
 
 -- Rows 1 to 10 passed when the text was judged: a typed command gets 0 or a code of the store, and no parameter.
+abbrev pub storeCode : ℕ → Bool
+storeCode n = (leb 11 n && leb n 19) || eqb n 25
+
 pub record OfStore (told : Told) : Type 0 where
-  pub code : (told .code ≡ 0) ⊎ ((11 ≤ told .code) × (told .code ≤ 19))
+  pub code : (told .code ≡ 0) ⊎ (storeCode (told .code) ≡ true)
   pub par : told .par ≡ 0
 
 abbrev within : List Check → Bool
 within [] = true
-within (c ∷ cs) = leb 11 (c .code) && leb (c .code) 19 && within cs
+within (c ∷ cs) = storeCode (c .code) && within cs
 
-first-within : (cs : List Check) → within cs ≡ true → (firstOf cs ≡ 0) ⊎ ((11 ≤ firstOf cs) × (firstOf cs ≤ 19))
+first-within : (cs : List Check) → within cs ≡ true → (firstOf cs ≡ 0) ⊎ (storeCode (firstOf cs) ≡ true)
 first-within [] all = inl refl
 first-within (c ∷ cs) all =
-    let parts = both (leb 11 (c .code) && leb (c .code) 19) (within cs) all in
-    let own = both (leb 11 (c .code)) (leb (c .code) 19) (parts .0) in
-    go (c .due) (leb-true 11 (c .code) (own .0)) (leb-true (c .code) 19 (own .1)) (first-within cs (parts .1))
+    let parts = both (storeCode (c .code)) (within cs) all in
+    go (c .due) (parts .0) (first-within cs (parts .1))
   where
-    go : (t : Bool) → 11 ≤ c .code → c .code ≤ 19 → (firstOf cs ≡ 0) ⊎ ((11 ≤ firstOf cs) × (firstOf cs ≤ 19))
-        → (cond t (c .code) (firstOf cs) ≡ 0) ⊎ ((11 ≤ cond t (c .code) (firstOf cs)) × (cond t (c .code) (firstOf cs) ≤ 19))
-    go true least most rest = inr (least, most)
-    go false least most rest = rest
+    go : (t : Bool) → storeCode (c .code) ≡ true → (firstOf cs ≡ 0) ⊎ (storeCode (firstOf cs) ≡ true)
+        → (cond t (c .code) (firstOf cs) ≡ 0) ⊎ (storeCode (cond t (c .code) (firstOf cs)) ≡ true)
+    go true own rest = inr own
+    go false own rest = rest
 
 read-told : (b : Bench) (s : List ℕ) → readCode s ≡ 0 → OfStore (taken b s .told)
 unfolding taken permitCode
@@ -183,9 +185,9 @@ read-told b s read =
     let rows = first-within (storeChecks (b .store) (said s)) refl in
     record { code = rw code rows; par = rw (code, ne-eqb (permitCode (b .store) (said s)) 8 (not-8 (permitCode (b .store) (said s)) rows)) }
   where
-    not-8 : (n : ℕ) → (n ≡ 0) ⊎ ((11 ≤ n) × (n ≤ 19)) → n ≢ 8
+    not-8 : (n : ℕ) → (n ≡ 0) ⊎ (storeCode n ≡ true) → n ≢ 8
     not-8 n (inl none) e = omega arith
-    not-8 n (inr some) e = omega (arith, some)
+    not-8 n (inr some) e = false≢true (ap storeCode (sym e) ∙ some)
 
 read-at : (rs : List (List ℕ)) → AllRead rs → (k : ℕ) → k < length rs → readCode (getD rs k []) ≡ 0
 read-at [] all k there = absurd (omega arith)

@@ -3,7 +3,7 @@
 use Prim.Native.Nat.{ℕ}
 use mathlib.Core.Path.{_≡_, refl, sym, ap, _∙_}
 use mathlib.Core.List.{[], _∷_}
-use mathlib.Core.Bool.{cond, _&&_}
+use mathlib.Core.Bool.{cond, _&&_, _||_}
 use native.Mathlib.Omega.{arith}
 use lib.Dec.{eqb, leb}
 use Rattle.words.proofs.Laws.{one-to-one}
@@ -13,7 +13,8 @@ use Rattle.wire.specs.Judge.{toldOf}
 use Rattle.wire.proofs.Unique.{one-refusal}
 use Rattle.store.specs.declared.checks.Denial.{Denial}
 use Rattle.store.specs.Checks.{codeOf}
-use Rattle.store.proofs.Unique.{denial-told, handed-told}
+use Rattle.store.specs.Effects.{groupOf}
+use Rattle.store.proofs.Unique.{denial-told}
 use Rattle.bench.specs.declared.Verdict.{Verdict}
 use Rattle.bench.specs.declared.Carried.{Carried}
 use Rattle.bench.specs.declared.Passed.{Passed}
@@ -31,7 +32,7 @@ placeOf (Verdict.Misread refusal) = 2
 placeOf (Verdict.Denied denial) = 3
 
 abbrev placeTold : ℕ → ℕ
-placeTold code = cond (eqb code 0) 0 (cond (eqb code 27) 1 (cond (leb 11 code && leb code 19) 3 2))
+placeTold code = cond (eqb code 0) 0 (cond (eqb code 27) 1 (cond ((leb 11 code && leb code 19) || eqb code 25) 3 2))
 
 refusal-place : (r : Refusal) → placeTold (toldOf r .code) ≡ 2
 refusal-place Refusal.TooFewBytes = refl
@@ -52,6 +53,7 @@ denial-place Denial.AnotherOpen = refl
 denial-place Denial.AlreadyClosed = refl
 denial-place Denial.NoEntries = refl
 denial-place Denial.TooLong = refl
+denial-place Denial.TooMany = refl
 denial-place Denial.NoneFree = refl
 denial-place Denial.NotBelow = refl
 denial-place Denial.NotClosed = refl
@@ -92,13 +94,15 @@ one-carried a b e =
     let bench : a .bench ≡ b .bench = ap (λ (o : Outcome). o .bench) e in
     rw (verdict, bench)
 
--- Two results of `second` that tell the same are the same.
-pub one-passed : (a b : Passed) → passedOf a ≡ passedOf b → a ≡ b
-one-passed a b e =
-    let verdict : a .verdict ≡ b .verdict = one-verdict (a .verdict) (b .verdict) (ap (λ (o : SecondTold). o .told) e) in
-    let handed : a .handed ≡ b .handed = handed-told (a .handed) (b .handed) (ap (λ (o : SecondTold). o .handed) e) in
-    let bench : a .bench ≡ b .bench = ap (λ (o : SecondTold). o .bench) e in
-    rw (verdict, handed, bench)
+-- Two results of `second` that tell the same, with groups of what they tell, are the same.
+pub one-passed : (told : SecondTold) (a b : Passed) → passedOf a ≡ told → a .group ≡ groupOf (told .handed)
+    → passedOf b ≡ told → b .group ≡ groupOf (told .handed) → a ≡ b
+one-passed told a b tells-a group-a tells-b group-b =
+    let same : passedOf a ≡ passedOf b = tells-a ∙ sym tells-b in
+    let verdict : a .verdict ≡ b .verdict = one-verdict (a .verdict) (b .verdict) (ap (λ (o : SecondTold). o .told) same) in
+    let group : a .group ≡ b .group = group-a ∙ sym group-b in
+    let bench : a .bench ≡ b .bench = ap (λ (o : SecondTold). o .bench) same in
+    rw (verdict, group, bench)
 
 -- Two answers of `status` that tell the same are the same.
 pub one-status : (a b : Status) → toldStatus a ≡ toldStatus b → a ≡ b

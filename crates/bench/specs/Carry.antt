@@ -43,7 +43,7 @@ effectOf b c = record { camera = cameraAfter (b .camera) c; store = appliedOf (b
 abbrev pub outcomeFor : ℕ → Bench → Command → Outcome
 outcomeFor code b c = record { told = toldWith code (parOf code (firstBadIn c)); bench = cond (eqb code 0) (effectOf b c) b }
 
--- Rows 8 to 19, on a decoded command.
+-- Rows 8 to 19 and 25, on a decoded command.
 abbrev pub commandChecks : Bench → Command → List Check
 commandChecks b c = argChecks c ++ storeChecks (b .store) c
 
@@ -58,11 +58,11 @@ unfoldable pub carryOut : Bench → Command → Outcome
 unfolding carryCode
 carryOut b c = outcomeFor (carryCode b c) b c
 
--- Rows 1 to 19, on bytes.
+-- Rows 1 to 19 and 25, on bytes.
 abbrev pub bytesChecks : Bench → List ℕ → List Check
 bytesChecks b s = readChecks s ++ storeChecks (b .store) (said s)
 
--- Rows 1 to 19 on a bench that is known to be sound: what a run does with each command.
+-- The same rows on a bench that is known to be sound: what a run does with each command.
 unfoldable pub taken : Bench → List ℕ → Outcome
 taken b s = outcomeFor (firstOf (bytesChecks b s)) b (said s)
 

@@ -46,15 +46,15 @@ abbrev pub decisionOf : Decision → Answer
 decisionOf (Decision.Accepted c) = record { told = toldWith 0 0; taken = c ∷ [] }
 decisionOf (Decision.Refused verdict) = record { told = verdictOf verdict; taken = [] }
 
--- Rows 11 to 19 alone, on a command that was read or judged.
+-- The store's rows alone, on a command that was read or judged.
 unfoldable pub permittedBy : Tally → Command → Answer
 permittedBy t c = answerFor (tallyCode t c) c
 
--- Rows 8 to 19, on a decoded command.
+-- Rows 8 to 10 and the store's, on a decoded command.
 unfoldable pub decidedBy : Tally → Command → Answer
 decidedBy t c = answerFor (firstOf (argChecks c ++ tallyChecks t c)) c
 
--- Rows 1 to 19, on bytes.
+-- Rows 1 to 10 and the store's, on bytes.
 unfoldable pub decidedIn : Tally → List ℕ → Answer
 decidedIn t s = answerFor (firstOf (readChecks s ++ tallyChecks t (said s))) (said s)
 

@@ -25,7 +25,7 @@ pub fn told_by(decision: Decision) -> Told
     }
 }
 
-// Codes 11 to 19, on a command that passed the earlier ones.
+// Codes 11 to 19 and 25, on a command that passed the earlier ones.
 pub fn permitted(tally: Tally, command: Command) -> Decision
     ensures { λ r. ⌜ decisionOf r ≡ permittedBy tally command ⌝ }
 {
@@ -35,7 +35,7 @@ pub fn permitted(tally: Tally, command: Command) -> Decision
     }
 }
 
-// A decoded command: 8 to 19.
+// A decoded command: 8 to 19 and 25.
 pub fn decide(tally: Tally, command: Command) -> Decision
     ensures { λ r. ⌜ decisionOf r ≡ decidedBy tally command ⌝ }
 {
@@ -45,7 +45,7 @@ pub fn decide(tally: Tally, command: Command) -> Decision
     }
 }
 
-// The command at the front of these bytes: 1 to 19.
+// The command at the front of these bytes: 1 to 19 and 25.
 pub fn decide_bytes(tally: Tally, bytes: &[u8]) -> Decision
     ensures { λ r. ⌜ decisionOf r ≡ decidedIn tally (now (bytes .entry)) ⌝ }
 {

@@ -3,7 +3,7 @@
 ghost use mathlib.Core.Path.{_≡_};
 ghost use mathlib.Core.List.{[]};
 ghost use Rattle.camera.specs.Camera.{cameraSecond};
-ghost use Rattle.store.specs.Effects.{handedOf};
+ghost use Rattle.store.specs.Effects.{groupOf, kindsIn};
 ghost use Rattle.store.specs.TallySteps.{poolAfter};
 ghost use Rattle.bench.specs.Status.{freshBench, paceOf, statusOf, rulesHold, benchSound, toldStatus, statusAt, toldFree, freeAt};
 ghost use Rattle.bench.specs.Carry.{verdictOf, outcomeOf, cameraAfter, carryOut, carryOutBytes};
@@ -28,7 +28,7 @@ pub use lists::TypedRan;
 pub use lists::code_of;
 pub use lists::finding_of;
 use store::Denial;
-use store::Handed;
+use store::Group;
 use store::Store;
 use store::Survey;
 use store::Tally;
@@ -54,11 +54,11 @@ pub struct Carried {
     pub verdict: Verdict,
 }
 
-// A second passed: the bench afterwards, the verdict, and what was handed over.
+// A second passed: the bench afterwards, the verdict, and the group of entries that was handed over.
 pub struct Passed {
     pub bench: Bench,
     pub verdict: Verdict,
-    pub handed: Handed,
+    pub group: Group,
 }
 
 pub enum Status {
@@ -202,30 +202,35 @@ fn survey(works: Works, pool: &[u32; 576]) -> Survey
 
 // A second that a bench does not pass, for it is not sound.
 fn stayed(bench: Bench) -> Passed
-    ensures { λ r. ⌜ passedOf r ≡ stayedAt bench ⌝ }
+    ensures { λ r. ⌜ (passedOf r ≡ stayedAt bench) × (r .group ≡ groupOf []) ⌝ }
 {
     Passed {
         bench,
         verdict: Verdict::Unsound,
-        handed: Handed::Nothing,
+        group: Group::none(),
     }
 }
 
-// The camera after what a second handed over.
-fn executed_handed(camera: Camera, handed: Handed) -> Camera
-    ensures { λ r. ⌜ r ≡ executedAll camera (handedOf handed) ⌝ }
+// The camera after what a second handed over, each entry executed before the next.
+fn executed_all(camera: Camera, group: Group) -> Camera
+    ensures { λ r. ⌜ r ≡ executedAll camera (kindsIn group) ⌝ }
 {
-    match handed {
-        Handed::Nothing => camera,
-        Handed::Over(kind) => camera.executed(kind),
+    let words = group.words;
+    let size = store::group_size(group.count);
+    let mut camera = camera;
+    let mut i: usize = 0;
+    while i < size {
+        camera = camera.executed(store::handed_at(&words, i));
+        i += 1;
     }
+    camera
 }
 
 // The camera after a second: first each series, then what was handed over is executed.
-fn camera_second(camera: Camera, handed: Handed) -> Camera
-    ensures { λ r. ⌜ r ≡ executedAll (cameraSecond camera) (handedOf handed) ⌝ }
+fn camera_second(camera: Camera, group: Group) -> Camera
+    ensures { λ r. ⌜ r ≡ executedAll (cameraSecond camera) (kindsIn group) ⌝ }
 {
-    executed_handed(camera.second(), handed)
+    executed_all(camera.second(), group)
 }
 
 impl Bench {
@@ -285,7 +290,7 @@ impl Bench {
         }
     }
 
-    // A decoded command: 27, then 8 to 19.
+    // A decoded command: 27, then 8 to 19 and 25.
     pub fn carry_out(self, command: Command) -> Carried
         ensures { λ r. ⌜ outcomeOf r ≡ carryOut self command ⌝ }
     {
@@ -300,7 +305,7 @@ impl Bench {
         self.carried(tally, decide(tally, command))
     }
 
-    // The command at the front of these bytes: 27, then 1 to 19.
+    // The command at the front of these bytes: 27, then 1 to 19 and 25.
     pub fn carry_out_bytes(self, bytes: &[u8]) -> Carried
         ensures { λ r. ⌜ outcomeOf r ≡ carryOutBytes self (now (bytes .entry)) ⌝ }
     {
@@ -315,9 +320,10 @@ impl Bench {
         self.carried(tally, decide_bytes(tally, bytes))
     }
 
-    // A second passes: 27; else the two series, then the running macro's next entry.
+    // A second passes: 27; else the two series, then the running macro's next group.
     pub fn second(self) -> Passed
         ensures { λ r. ⌜ passedOf r ≡ secondAt self ⌝ }
+        ensures { λ r. ⌜ r .group ≡ groupOf (secondAt self .handed) ⌝ }
     {
         let works = self.works();
         if !obeys(works) {
@@ -327,9 +333,9 @@ impl Bench {
         if !step.sound {
             return stayed(self);
         }
-        let handed = step.handed;
+        let group = step.group;
         let camera = self.camera;
-        let camera = camera_second(camera, handed);
+        let camera = camera_second(camera, group);
         let store = self.store;
         let store = Store {
             running: step.running,
@@ -340,7 +346,7 @@ impl Bench {
         Passed {
             bench,
             verdict: Verdict::Accepted,
-            handed,
+            group,
         }
     }
 

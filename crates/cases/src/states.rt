@@ -33,11 +33,11 @@ fn carried(name: &[u8], b: Bench, carried: Carried) {
 fn second(b: Bench) {
     let passed = b.second();
     let verdict = passed.verdict;
-    let over = passed.handed;
+    let group = passed.group;
     let told = bench::told_of(verdict);
     answer(b", second ", told.code, b, passed.bench);
     say::text(b" ");
-    asking::handed(over);
+    asking::handed(group);
 }
 
 // How many records each sender has, and whether the room behind them is as it was.

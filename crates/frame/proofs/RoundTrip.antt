@@ -125,7 +125,7 @@ record Accepted (s : List ℕ) : Type 0 where
 accepted : (s : List ℕ) → readCode s ≡ 0 → Accepted s
 unfolding readCode
 accepted s e =
-    let checks = due-none 0 (readChecks s) refl e in
+    let checks = due-none (readChecks s) refl e in
     let rules = spareBitsZero s && countHolds s && frameRule (frameAt s) in
     let fields = both (spareBitsZero s && countHolds s) (frameRule (frameAt s)) (not-false rules (checks .1 .0)) in
     let bytes = both (spareBitsZero s) (countHolds s) (fields .0) in

@@ -1,42 +1,54 @@
 // The items in which time passes: 00 a second, 08 many of them.
-ghost use Prim.Native.Nat.{_+_, _<_, _≤_};
 use super::items::State;
 use super::names;
 use super::output;
 use super::script;
 use bench::Bench;
 use bench::Verdict;
-use store::Handed;
+use store::Group;
+use wire::Kind;
 
-// Some seconds passed: the bench afterwards, and how many of them handed something over.
+// Some seconds passed: the bench afterwards, and how many entries they handed over in all.
 pub struct Waited {
     pub bench: Bench,
-    pub busy: u16,
+    pub entries: u32,
 }
 
-// What was handed over, by name.
-fn handed_words(out: &mut [u8], used: usize, handed: Handed) -> usize {
-    match handed {
-        Handed::Nothing => output::text(out, used, b" none"),
-        Handed::Over(kind) => names::kind(out, used, kind),
-    }
-}
-
-fn second_line(out: &mut [u8], used: usize, verdict: Verdict, handed: Handed) -> usize {
-    let told = bench::told_of(verdict);
-    let used = output::text(out, used, b"second");
-    let used = output::number(out, used, told.code as u64);
-    let used = handed_words(out, used, handed);
+// An entry that was handed over, by name, and its code.
+fn handed_line(out: &mut [u8], used: usize, kind: Kind) -> usize {
+    let used = output::text(out, used, b"handed 0");
+    let used = names::kind(out, used, kind);
     output::end(out, used)
 }
 
-// 00: `second CODE none`, or `second CODE NAME ARGS`.
+fn handed_lines(out: &mut [u8], used: usize, group: Group) -> usize {
+    let words = group.words;
+    let size = store::group_size(group.count);
+    let mut used = used;
+    let mut i: usize = 0;
+    while i < size {
+        used = handed_line(out, used, store::handed_at(&words, i));
+        i += 1;
+    }
+    used
+}
+
+fn second_lines(out: &mut [u8], used: usize, verdict: Verdict, group: Group) -> usize {
+    let told = bench::told_of(verdict);
+    let used = output::text(out, used, b"second");
+    let used = output::number(out, used, told.code as u64);
+    let used = output::number(out, used, group.count as u64);
+    let used = output::end(out, used);
+    handed_lines(out, used, group)
+}
+
+// 00: `second CODE N`, and a line `handed CODE NAME ARGS` for each of the N entries.
 pub fn second(state: State, out: &mut [u8]) -> State {
     let bench = state.bench;
     let passed = bench.second();
     let verdict = passed.verdict;
-    let handed = passed.handed;
-    let used = second_line(out, state.used, verdict, handed);
+    let group = passed.group;
+    let used = second_lines(out, state.used, verdict, group);
     let bench = passed.bench;
     State {
         bench,
@@ -45,38 +57,27 @@ pub fn second(state: State, out: &mut [u8]) -> State {
     }
 }
 
-// One more where something was handed over.
-fn counted(count: u16, handed: Handed) -> u16
-    requires { ⌜ count < 65535 ⌝ }
-    ensures { λ r. ⌜ r ≤ count + 1 ⌝ }
-{
-    match handed {
-        Handed::Nothing => count,
-        Handed::Over(_) => count + 1,
-    }
-}
-
 fn wait(bench: Bench, seconds: u16) -> Waited {
     let mut bench = bench;
-    let mut busy: u16 = 0;
+    let mut entries: u32 = 0;
     let mut passed: u16 = 0;
     while passed < seconds {
         let step = bench.second();
         bench = step.bench;
-        let handed = step.handed;
-        busy = counted(busy, handed);
+        let group = step.group;
+        entries += store::group_size(group.count) as u32;
         passed += 1;
     }
-    Waited { bench, busy }
+    Waited { bench, entries }
 }
 
-fn passed_line(out: &mut [u8], used: usize, busy: u16) -> usize {
+fn passed_line(out: &mut [u8], used: usize, entries: u32) -> usize {
     let used = output::text(out, used, b"passed");
-    let used = output::number(out, used, busy as u64);
+    let used = output::number(out, used, entries as u64);
     output::end(out, used)
 }
 
-// 08, how many seconds in two bytes: `passed N`, N of which handed something over.
+// 08, how many seconds in two bytes: `passed N`, N being the entries that they handed over in all.
 pub fn pass(state: State, s: &[u8], out: &mut [u8]) -> State {
     let seconds = script::take(s, state.at, 2);
     if !seconds.whole {
@@ -84,7 +85,7 @@ pub fn pass(state: State, s: &[u8], out: &mut [u8]) -> State {
     }
     let bench = state.bench;
     let waited = wait(bench, words::half_at(s, seconds.from));
-    let used = passed_line(out, state.used, waited.busy);
+    let used = passed_line(out, state.used, waited.entries);
     let bench = waited.bench;
     State {
         bench,

@@ -4,7 +4,7 @@ use mathlib.Core.Path.{_≡_, refl, sym, ap, _∙_, fun-ext}
 use mathlib.Core.List.{List, [], _∷_, _++_, append-assoc}
 use mathlib.Core.Bool.{Bool, true, false, cond}
 use native.Mathlib.Omega.{arith}
-use lib.ListN.{getD, replicate}
+use lib.ListN.{getD}
 use lib.Dec.{eqb}
 use borrow.Author.Tests.{eq-eqb, ne-eqb, eqb-true, eqb-false}
 use Rattle.wire.specs.declared.kinds.Kind.{Kind}
@@ -13,7 +13,7 @@ use Rattle.store.specs.declared.Store.{Store}
 use Rattle.store.specs.declared.roles.Role.{Role}
 use Rattle.store.specs.Roles.{roleOf}
 use Rattle.store.specs.Pool.{isClosed, entriesOf}
-use Rattle.store.specs.WrittenOut.{expandAs, expand, flatBelow, flat, handOver, seconds, writtenOut}
+use Rattle.store.specs.WrittenOut.{expandAs, expand, flatBelow, flat, itemOf, itemsOf, seconds, writtenOut}
 
 -- What `flatBelow` hands an entry for a RUN's target: the target's list where it is closed.
 abbrev pub lookBelow : (ℕ → Bool) → (ℕ → List Command) → ℕ → ℕ → List Kind
@@ -135,35 +135,35 @@ module _ (cl cl′ : ℕ → Bool) (es es′ : ℕ → List Command) (same : (k 
       inside)
       (grown n m own inside)
 
--- Both laws on stores: equal marks and equal entries of the closed macros, and of macro m, give m the same written-out list.
-pub written-frame : (s t : Store) → s .closed ≡ t .closed → ((k : ℕ) → isClosed s k ≡ true → entriesOf s k ≡ entriesOf t k)
-    → (m : ℕ) → entriesOf s m ≡ entriesOf t m → writtenOut s m ≡ writtenOut t m
-unfolding writtenOut flat
-written-frame s t marks same m own =
-    ap seconds
-    (frame (isClosed s) (entriesOf s) (entriesOf t) same (suc m) m own
-    ∙ ap (λ cl. flatBelow (λ k. getD cl k false) (entriesOf t) (suc m) m) marks)
+-- Both laws on stores: equal marks and equal entries of the closed macros, and of macro m, give m the same list, and the same written-out list.
+pub flat-frame : (s t : Store) → s .closed ≡ t .closed → ((k : ℕ) → isClosed s k ≡ true → entriesOf s k ≡ entriesOf t k)
+    → (m : ℕ) → entriesOf s m ≡ entriesOf t m → flat s m ≡ flat t m
+unfolding flat
+flat-frame s t marks same m own =
+    frame (isClosed s) (entriesOf s) (entriesOf t) same (suc m) m own
+    ∙ ap (λ cl. flatBelow (λ k. getD cl k false) (entriesOf t) (suc m) m) marks
 
 -- Marks that grow change the list of no macro that runs closed ones only.
-pub written-grown : (s t : Store) → ((k : ℕ) → isClosed s k ≡ true → isClosed t k ≡ true)
+pub flat-grown : (s t : Store) → ((k : ℕ) → isClosed s k ≡ true → isClosed t k ≡ true)
     → ((k : ℕ) → isClosed s k ≡ true → entriesOf s k ≡ entriesOf t k)
     → ((k : ℕ) → isClosed s k ≡ true → RunsIn (isClosed s) (entriesOf s k))
-    → (m : ℕ) → entriesOf s m ≡ entriesOf t m → RunsIn (isClosed s) (entriesOf s m) → writtenOut s m ≡ writtenOut t m
-unfolding writtenOut flat
-written-grown s t grow same runs m own inside =
-    ap seconds (grown (isClosed s) (isClosed t) (entriesOf s) (entriesOf t) same grow runs (suc m) m own inside)
+    → (m : ℕ) → entriesOf s m ≡ entriesOf t m → RunsIn (isClosed s) (entriesOf s m) → flat s m ≡ flat t m
+unfolding flat
+flat-grown s t grow same runs m own inside =
+    grown (isClosed s) (isClosed t) (entriesOf s) (entriesOf t) same grow runs (suc m) m own inside
 
--- Second by second: two lists one after the other.
-handOver-append : (r : Role) (kind : Kind) (xs ys : List (List Kind)) → handOver r kind (xs ++ ys) ≡ handOver r kind xs ++ ys
-handOver-append Role.Plain kind xs ys = refl
-handOver-append (Role.Open m) kind xs ys = refl
-handOver-append Role.Close kind xs ys = refl
-handOver-append (Role.Run m) kind xs ys = refl
-handOver-append (Role.Wait n) kind xs ys = sym (append-assoc (replicate n []) xs ys)
-handOver-append Role.Stop kind xs ys = refl
-handOver-append Role.Clear kind xs ys = refl
+-- Macros with the same list have the same seconds.
+pub written-same : (s t : Store) (m k : ℕ) → flat s m ≡ flat t k → writtenOut s m ≡ writtenOut t k
+unfolding writtenOut
+written-same s t m k same = ap (λ ks. seconds (itemsOf ks)) same
 
-pub seconds-append : (xs ys : List Kind) → seconds (xs ++ ys) ≡ seconds xs ++ seconds ys
-unfolding seconds
-seconds-append [] ys = refl
-seconds-append (k ∷ ks) ys = ap (handOver (roleOf k) k) (seconds-append ks ys) ∙ handOver-append (roleOf k) k (seconds ks) (seconds ys)
+-- Two lists of entries one after the other, and one entry alone.
+pub expand-append : (look : ℕ → List Kind) (xs ys : List Command) → expand look (xs ++ ys) ≡ expand look xs ++ expand look ys
+unfolding expand
+expand-append look [] ys = refl
+expand-append look (x ∷ xs) ys =
+    rw (expand-append look xs ys) (sym (append-assoc (expandAs look (x .kind) (roleOf (x .kind))) (expand look xs) (expand look ys)))
+
+pub items-append : (xs ys : List Kind) → itemsOf (xs ++ ys) ≡ itemsOf xs ++ itemsOf ys
+items-append [] ys = refl
+items-append (x ∷ xs) ys = ap (λ l. itemOf x ∷ l) (items-append xs ys)

@@ -1,12 +1,13 @@
--- What a second of a sound store hands over: nothing, or one plain kind whose arguments are in range. So the bench may execute it.
-use Prim.Native.Nat.{ℕ, zero, suc}
-use mathlib.Core.Path.{_≡_, refl, sym, subst}
-use mathlib.Core.List.{List, [], _∷_, _++_}
+-- What a second of a sound store hands over: at most 64 kinds, all of them plain and with arguments in range, so that the bench may execute them, and
+-- all of them said again by their words.
+use Prim.Native.Nat.{ℕ, _≤_}
+use mathlib.Core.Path.{_≡_, refl}
+use mathlib.Core.List.{List, [], _∷_}
 use mathlib.Core.Bool.{Bool, true, false, cond, not}
 use native.Mathlib.Omega.{arith}
-use lib.ListN.{getD, replicate}
+use lib.ListN.{length, getD, replicate}
 use lib.Dec.{eqb}
-use borrow.Author.Tests.{eqb-true, eqb-false}
+use borrow.Author.Tests.{eqb-false}
 use Rattle.wire.specs.declared.kinds.Kind.{Kind}
 use Rattle.wire.specs.declared.kinds.Command.{Command}
 use Rattle.wire.specs.declared.table.Form.{Form}
@@ -16,29 +17,15 @@ use Rattle.store.specs.declared.Store.{Store}
 use Rattle.store.specs.declared.roles.Role.{Role}
 use Rattle.store.specs.Roles.{roleOf}
 use Rattle.store.specs.Pool.{isClosed, entriesOf}
-use Rattle.store.specs.WrittenOut.{expandAs, expand, flatBelow, flat, handOver, seconds, writtenOut}
-use Rattle.store.specs.Effects.{nextEntry}
-use Rattle.store.proofs.Flat.{Each, lookBelow, flat-at, flat-other}
-use Rattle.store.proofs.Sound.{TargetBelow, SoundEntry, Good, closed-small}
-
--- A property of each element of a list.
-abbrev pub All : {A : Type 0} → (A → Type 0) → List A → Type 0
-All P [] = Unit
-All P (x ∷ xs) = P x × All P xs
-
-module _ {A : Type 0} (P : A → Type 0) where
-  all-append : (xs ys : List A) → All P xs → All P ys → All P (xs ++ ys)
-  all-append [] ys h k = k
-  all-append (x ∷ xs) ys h k = (h .0, all-append xs ys (h .1) k)
-
-  all-replicate : (n : ℕ) (x : A) → P x → All P (replicate n x)
-  all-replicate zero x h = tt
-  all-replicate (suc n) x h = (h, all-replicate n x h)
-
-  all-getD : (xs : List A) (k : ℕ) (d : A) → All P xs → P d → P (getD xs k d)
-  all-getD [] k d h p = p
-  all-getD (x ∷ xs) zero d h p = h .0
-  all-getD (x ∷ xs) (suc k) d h p = all-getD xs k d (h .1) p
+use Rattle.store.specs.WrittenOut.{flat, itemAs, itemsOf, inFirst, seconds, writtenOut}
+use Rattle.store.specs.Effects.{groupOf, kindsIn, nextGroup}
+use Rattle.store.proofs.Clear.{Said, canonical-said, EachSaid, kinds-in}
+use Rattle.store.proofs.Flat.{Each}
+use Rattle.store.proofs.Parts.{Kept}
+pub use Rattle.store.proofs.Contents.{All}
+use Rattle.store.proofs.Contents.{all-append, all-replicate, all-getD, entries-each, Gives, flat-all}
+use Rattle.store.proofs.WaitLaws.{most-reached}
+use Rattle.store.proofs.Sound.{SoundEntry, Good, closed-small}
 
 -- Only plain kinds, RUN and WAIT may be appended, and RUNs are replaced.
 abbrev pub MayAppend : Role → Type 0
@@ -86,73 +73,98 @@ PlainOrWait Role.Clear = ⊥
 record Listed (kind : Kind) : Type 0 where
   role : PlainOrWait (roleOf kind)
   allowed : judgeCode (record { flag = true; kind = kind }) ≡ 0
+  said : Said kind
 
--- What is handed over: a plain kind that passes rows 8 to 10.
+-- What is handed over: a plain kind that passes rows 8 to 10, and that its words say again.
 pub record Plain (kind : Kind) : Type 0 where
   pub role : roleOf kind ≡ Role.Plain
   pub allowed : judgeCode (record { flag = true; kind = kind }) ≡ 0
+  pub said : Said kind
 
-one-listed : (s : Store) (m : ℕ) (look : ℕ → List Kind) → ((k : ℕ) → isClosed s k ≡ true → All Listed (look k))
-    → (kind : Kind) (r : Role) → roleOf kind ≡ r → judgeCode (record { flag = true; kind = kind }) ≡ 0 → MayAppend r → TargetBelow s m r
-    → All Listed (expandAs look kind r)
-one-listed s m look h kind Role.Plain e judge may target = (record { role = rw e tt; allowed = judge }, tt)
-one-listed s m look h kind (Role.Open k) e judge may target = absurd may
-one-listed s m look h kind Role.Close e judge may target = absurd may
-one-listed s m look h kind (Role.Run k) e judge may target = h k (target .1)
-one-listed s m look h kind (Role.Wait n) e judge may target = (record { role = rw e tt; allowed = judge }, tt)
-one-listed s m look h kind Role.Stop e judge may target = absurd may
-one-listed s m look h kind Role.Clear e judge may target = absurd may
+-- An entry that is read off three words is said again by its own; where it is sound and no RUN, it is listed as it is.
+abbrev SaidAgain : Command → Type 0
+SaidAgain e = e .flag ≡ true → Said (e .kind)
 
-expand-listed : (s : Store) (m : ℕ) (look : ℕ → List Kind) → ((k : ℕ) → isClosed s k ≡ true → All Listed (look k))
-    → (es : List Command) → Each (SoundEntry s m) es → All Listed (expand look es)
-unfolding expand
-expand-listed s m look h [] entries = tt
-expand-listed s m look h (e ∷ es) entries =
-    let judge : judgeCode (record { flag = true; kind = e .kind }) ≡ 0 = rw (entries .0 .flagged) at (entries .0 .allowed) in
-    all-append Listed (expandAs look (e .kind) (roleOf (e .kind))) (expand look es)
-    (one-listed s m look h (e .kind) (roleOf (e .kind)) refl judge (appendable (e .kind) judge) (entries .0 .target))
-    (expand-listed s m look h es (entries .1))
+stands : (r : Role) → MayAppend r → Kept r → PlainOrWait r
+stands Role.Plain may itself = tt
+stands (Role.Open m) may itself = absurd may
+stands Role.Close may itself = absurd may
+stands (Role.Run m) may itself = absurd itself
+stands (Role.Wait n) may itself = tt
+stands Role.Stop may itself = absurd may
+stands Role.Clear may itself = absurd may
 
-flat-listed : (s : Store) → Good s → (n m : ℕ) → isClosed s m ≡ true → All Listed (flatBelow (isClosed s) (entriesOf s) n m)
-unfolding flatBelow
-flat-listed s good zero m c = tt
-flat-listed s good (suc n) m c = go (eqb m n) refl (flat-listed s good n)
-  where
-    go : (b : Bool) → eqb m n ≡ b → ((k : ℕ) → isClosed s k ≡ true → All Listed (flatBelow (isClosed s) (entriesOf s) n k))
-        → All Listed (flatBelow (isClosed s) (entriesOf s) (suc n) m)
-    go true e less =
-        let cl = isClosed s in
-        let es = entriesOf s in
-        subst (All Listed) (sym (flat-at cl es n m (eqb-true m n e)))
-        (expand-listed s m (lookBelow cl es n) (λ k h. rw h (less k h)) (es m) (good .sound .closed m (closed-small s (good .shaped) m c) c .entries))
-    go false e less = subst (All Listed) (sym (flat-other (isClosed s) (entriesOf s) n m (eqb-false m n e))) (less m c)
+entry-gives : (s : Store) (m : ℕ) (e : Command) → SoundEntry s m e → SaidAgain e → Gives Listed e
+entry-gives s m e sound again itself =
+    let judge : judgeCode (record { flag = true; kind = e .kind }) ≡ 0 = rw (sound .flagged) at (sound .allowed) in
+    record { role = stands (roleOf (e .kind)) (appendable (e .kind) judge) itself; allowed = judge; said = again (sound .flagged) }
 
-seconds-plain : (ks : List Kind) → All Listed ks → All (All Plain) (seconds ks)
+entries-give : (s : Store) (m : ℕ) (es : List Command) → Each (SoundEntry s m) es → Each SaidAgain es → Each (Gives Listed) es
+entries-give s m [] sound again = tt
+entries-give s m (e ∷ es) sound again = (entry-gives s m e (sound .0) (again .0), entries-give s m es (sound .1) (again .1))
+
+closed-gives : (s : Store) → Good s → (m : ℕ) → isClosed s m ≡ true → Each (Gives Listed) (entriesOf s m)
+closed-gives s good m c =
+    entries-give s m (entriesOf s m)
+    (good .sound .closed m (closed-small s (good .shaped) m c) c .entries)
+    (entries-each SaidAgain canonical-said s m)
+
+flat-listed : (s : Store) → Good s → (m : ℕ) → isClosed s m ≡ true → All Listed (flat s m)
+flat-listed s good m c = flat-all Listed s (closed-gives s good) m (closed-gives s good m c)
+
+-- So in each second stand plain kinds.
+first-plain : (kind : Kind) (gs : List (List Kind)) → Plain kind → All (All Plain) gs → All (All Plain) (inFirst kind gs)
+first-plain kind [] plain rest = ((plain, tt), tt)
+first-plain kind (g ∷ gs) plain rest = ((plain, rest .0), rest .1)
+
+seconds-plain : (ks : List Kind) → All Listed ks → All (All Plain) (seconds (itemsOf ks))
 unfolding seconds
 seconds-plain [] h = tt
 seconds-plain (k ∷ ks) h = go (roleOf k) refl (h .0 .role) (seconds-plain ks (h .1))
   where
-    go : (r : Role) → roleOf k ≡ r → PlainOrWait r → All (All Plain) (seconds ks) → All (All Plain) (handOver r k (seconds ks))
-    go Role.Plain e role rest = ((record { role = e; allowed = h .0 .allowed }, tt), rest)
+    go : (r : Role) → roleOf k ≡ r → PlainOrWait r → All (All Plain) (seconds (itemsOf ks)) → All (All Plain) (seconds (itemAs r k ∷ itemsOf ks))
+    go Role.Plain e role rest =
+        first-plain k (seconds (itemsOf ks)) (record { role = e; allowed = h .0 .allowed; said = h .0 .said }) rest
     go (Role.Open m) e role rest = absurd role
     go Role.Close e role rest = absurd role
     go (Role.Run m) e role rest = absurd role
-    go (Role.Wait n) e role rest = all-append (All Plain) (replicate n []) (seconds ks) (all-replicate (All Plain) n [] tt) rest
+    go (Role.Wait n) e role rest = all-append (All Plain) (replicate n []) (seconds (itemsOf ks)) (all-replicate (All Plain) n [] tt) rest
     go Role.Stop e role rest = absurd role
     go Role.Clear e role rest = absurd role
 
--- Each second of the written-out list of a closed macro is nothing or one plain kind in range.
+-- Each second of the written-out list of a closed macro hands over plain kinds in range, and at most 64.
 pub written-plainly : (s : Store) → Good s → (m : ℕ) → isClosed s m ≡ true → All (All Plain) (writtenOut s m)
-unfolding writtenOut flat
-written-plainly s good m c = seconds-plain (flatBelow (isClosed s) (entriesOf s) (suc m) m) (flat-listed s good (suc m) m c)
+unfolding writtenOut
+written-plainly s good m c = seconds-plain (flat s m) (flat-listed s good m c)
 
--- So is what a second hands over.
-pub handed-plainly : (s : Store) → Good s → All Plain (nextEntry s)
-handed-plainly s good = go (eqb (s .running) 255) refl
+pub written-few : (s : Store) → Good s → (m : ℕ) → isClosed s m ≡ true → (k : ℕ) → length (getD (writtenOut s m) k []) ≤ 64
+written-few s good m c k =
+    let few = good .sound .closed m (closed-small s (good .shaped) m c) c .few in
+    omega (arith, few, most-reached (writtenOut s m) k)
+
+-- So does the next second of a sound store.
+handed-by : (P : List Kind → Type 0) (s : Store) → Good s → P []
+    → ((m : ℕ) → isClosed s m ≡ true → (k : ℕ) → P (getD (writtenOut s m) k [])) → P (nextGroup s)
+handed-by P s good none each = go (eqb (s .running) 255) refl
   where
-    go : (b : Bool) → eqb (s .running) 255 ≡ b → All Plain (nextEntry s)
-    go true e = rw e tt
-    go false e =
-        let m = s .running in
-        let closed = good .sound .running (eqb-false m 255 e) .closed in
-        rw e (all-getD (All Plain) (writtenOut s m) _ [] (written-plainly s good m closed) tt)
+    go : (b : Bool) → eqb (s .running) 255 ≡ b → P (nextGroup s)
+    go true e = rw e none
+    go false e = rw e (each (s .running) (good .sound .running (eqb-false (s .running) 255 e) .closed) _)
+
+pub handed-plainly : (s : Store) → Good s → All Plain (nextGroup s)
+handed-plainly s good =
+    handed-by (All Plain) s good tt (λ m c k. all-getD (All Plain) (writtenOut s m) k [] (written-plainly s good m c) tt)
+
+pub handed-few : (s : Store) → Good s → length (nextGroup s) ≤ 64
+handed-few s good = handed-by (λ g. length g ≤ 64) s good (omega arith) (written-few s good)
+
+-- So the words of what is handed over say it again, and the group that has them is of these kinds.
+each-said : (ks : List Kind) → All Plain ks → EachSaid ks
+each-said [] h = tt
+each-said (k ∷ ks) h = (h .0 .said, each-said ks (h .1))
+
+pub handed-said : (s : Store) → Good s → EachSaid (nextGroup s)
+handed-said s good = each-said (nextGroup s) (handed-plainly s good)
+
+pub handed-kinds : (s : Store) → Good s → kindsIn (groupOf (nextGroup s)) ≡ nextGroup s
+handed-kinds s good = kinds-in (nextGroup s) (handed-said s good)

@@ -36,6 +36,14 @@ over-capped n = go (ltb 600 n) refl
     go true e = lt-ltb 600 (min 601 n) (omega (arith, ltb-true 600 n e))
     go false e = le-ltb 600 (min 601 n) (omega (arith, ltb-false 600 n e))
 
+-- A number of entries that is told up to 65 is above 64 where the number is.
+pub over-few : (n : ℕ) → ltb 64 (min 65 n) ≡ ltb 64 n
+over-few n = go (ltb 64 n) refl
+  where
+    go : (t : Bool) → ltb 64 n ≡ t → ltb 64 (min 65 n) ≡ t
+    go true e = lt-ltb 64 (min 65 n) (omega (arith, ltb-true 64 n e))
+    go false e = le-ltb 64 (min 65 n) (omega (arith, ltb-false 64 n e))
+
 -- The tags of the roles that a test of roles does not pass, and that a role with such a tag does not.
 abbrev unplain : List ℕ
 unplain = 1 ∷ 2 ∷ 3 ∷ 4 ∷ 5 ∷ 6 ∷ []

@@ -16,13 +16,13 @@ use Rattle.store.specs.declared.Store.{Store}
 use Rattle.store.specs.declared.roles.Role.{Role}
 use Rattle.store.specs.Roles.{roleOf, isRun, isClear, numberOf, isStop}
 use Rattle.store.specs.Pool.{isClosed, usedIn, entriesOf, kept}
-use Rattle.store.specs.WrittenOut.{writtenOut}
+use Rattle.store.specs.WrittenOut.{expandAs, expand, flat, writtenOut}
 use Rattle.store.specs.Checks.{permitCode}
-use Rattle.store.specs.Effects.{startedOf, executedAs, appliedOf, nextEntry, afterSecond, countedDown}
+use Rattle.store.specs.Effects.{startedOf, executedAs, appliedOf, nextGroup, afterSecond, countedDown}
 use Rattle.store.proofs.Entries.{storedAs, stored-same}
 use Rattle.store.proofs.Kept.{kept-own}
-use Rattle.store.proofs.Parts.{partAs, partsOf, look, partOf, look-frame}
-use Rattle.store.proofs.WrittenOut.{written-is, written-last}
+use Rattle.store.proofs.Parts.{look, partOf, look-frame}
+use Rattle.store.proofs.WrittenOut.{flat-is, flat-last}
 use Rattle.store.proofs.Sound.{Good, Extends, extends-self, Passed, none-runs, InRange, judged-role, closed-small, lists-stay, runs-extends}
 use Rattle.store.proofs.Sound.{opened-extends, closed-extends, kept-extends, Appends, appends, applied-executed, executed-passed}
 
@@ -221,11 +221,11 @@ module _ (s : Store) (good : Good s) (c : Command) (judge : judgeCode c ≡ 0) (
       (λ e. let a = appends s good c e judge permit in rw (a .effect) (kept-run s c .0 ∙ free))
       (λ e. executed-idle s (roleOf (c .kind)) (executed-test c (isRun (roleOf (c .kind))) e other) free)
 
--- An entry more in the open macro: its list is the one before, followed by the part of the entry as it is stored.
-pub kept-written : (s : Store) → Good s → (c : Command) → s .opened < 8 → usedIn s < 192
-    → writtenOut (kept s c) (s .opened) ≡ writtenOut s (s .opened) ++ partOf s (s .opened) (storedAs c)
+-- An entry more in the open macro: its list, RUNs replaced, is the one before, followed by what the entry adds as it is stored.
+pub kept-flat : (s : Store) → Good s → (c : Command) → s .opened < 8 → usedIn s < 192
+    → flat (kept s c) (s .opened) ≡ flat s (s .opened) ++ partOf s (s .opened) (storedAs c)
 unfolding kept
-kept-written s good c small room = grown (storedAs c) (kept-own s c (good .shaped .pool) (good .shaped .counts) small room)
+kept-flat s good c small room = grown (storedAs c) (kept-own s c (good .shaped .pool) (good .shaped .counts) small room)
   where
     m : ℕ
     m = s .opened
@@ -236,28 +236,28 @@ kept-written s good c small room = grown (storedAs c) (kept-own s c (good .shape
     same : look t m ≡ look s m
     same = sym (look-frame s t refl (λ k h. sym (kept-extends s (good .shaped) c small room (good .marks .unclosed) .entries k h)) m)
 
-    grown : (e : Command) → entriesOf t m ≡ entriesOf s m ++ (e ∷ []) → writtenOut t m ≡ writtenOut s m ++ partOf s m e
+    grown : (e : Command) → entriesOf t m ≡ entriesOf s m ++ (e ∷ []) → flat t m ≡ flat s m ++ partOf s m e
     grown e own =
-        written-last t m (entriesOf s m) e own
-        ∙ ap (λ f. partsOf f (entriesOf s m) ++ partAs f (e .kind) (roleOf (e .kind))) same
-        ∙ ap (λ l. l ++ partOf s m e) (sym (written-is s m))
+        flat-last t m (entriesOf s m) e own
+        ∙ ap (λ f. expand f (entriesOf s m) ++ expandAs f (e .kind) (roleOf (e .kind))) same
+        ∙ ap (λ l. l ++ partOf s m e) (sym (flat-is s m))
 
--- So an accepted append leaves the open macro with its list followed by the new entry's part.
+-- So an accepted append leaves the open macro with its list followed by what the new entry adds.
 pub applied-appends : (s : Store) → Good s → (c : Command) → c .flag ≡ true → judgeCode c ≡ 0 → permitCode s c ≡ 0
-    → writtenOut (appliedOf s c) (s .opened) ≡ writtenOut s (s .opened) ++ partOf s (s .opened) (storedAs c)
+    → flat (appliedOf s c) (s .opened) ≡ flat s (s .opened) ++ partOf s (s .opened) (storedAs c)
 applied-appends s good c flag judge permit =
     let a = appends s good c flag judge permit in
-    ap (λ t. writtenOut t (s .opened)) (a .effect) ∙ kept-written s good c (a .small) (a .room)
+    ap (λ t. flat t (s .opened)) (a .effect) ∙ kept-flat s good c (a .small) (a .room)
 
 -- Every command that a program can hold is stored as it is.
 pub held-appends : (s : Store) → Good s → (c : Command) → Held c → c .flag ≡ true → judgeCode c ≡ 0 → permitCode s c ≡ 0
-    → writtenOut (appliedOf s c) (s .opened) ≡ writtenOut s (s .opened) ++ partOf s (s .opened) c
+    → flat (appliedOf s c) (s .opened) ≡ flat s (s .opened) ++ partOf s (s .opened) c
 held-appends s good c held flag judge permit =
-    applied-appends s good c flag judge permit ∙ ap (λ e. writtenOut s (s .opened) ++ partOf s (s .opened) e) (stored-same c judge held)
+    applied-appends s good c flag judge permit ∙ ap (λ e. flat s (s .opened) ++ partOf s (s .opened) e) (stored-same c judge held)
 
--- A second of a run with k + 1 of L seconds left hands over entry L - (k + 1), from 0, and leaves k; after the last one the store is idle.
+-- A second of a run with k + 1 of L seconds left hands over group L - (k + 1), from 0, and leaves k; after the last one the store is idle.
 pub record Second (s : Store) (k : ℕ) : Type 0 where
-  pub handed : nextEntry s ≡ getD (writtenOut s (s .running)) (length (writtenOut s (s .running)) - s .left) []
+  pub handed : nextGroup s ≡ getD (writtenOut s (s .running)) (length (writtenOut s (s .running)) - s .left) []
   pub left : afterSecond s .left ≡ k
   pub goes-on : (k ≡ 0 → ⊥) → afterSecond s .running ≡ s .running
   pub ends : k ≡ 0 → afterSecond s .running ≡ 255
@@ -284,7 +284,7 @@ pub second-lists : (s : Store) → Good s → (m : ℕ) → isClosed s m ≡ tru
 second-lists s good m c = lists-stay s (afterSecond s) good (second-extends s) m c
 
 -- On an idle store a second hands over nothing and changes nothing.
-pub second-idle : (s : Store) → s .running ≡ 255 → (nextEntry s ≡ []) × (afterSecond s ≡ s)
+pub second-idle : (s : Store) → s .running ≡ 255 → (nextGroup s ≡ []) × (afterSecond s ≡ s)
 second-idle s free = (rw (eq-eqb (s .running) 255 free), rw (eq-eqb (s .running) 255 free))
 
 -- Macro m runs with the list w, of which k seconds are over and at least one is left.
@@ -322,9 +322,9 @@ run-stays s good m w k run c judge permit other =
       going = run .going;
     }
 
--- and a second hands over entry k, from 0, and leaves the run with one second more over, or, after the last one, an idle store.
+-- and a second hands over group k, from 0, and leaves the run with one second more over, or, after the last one, an idle store.
 pub record RunSecond (m : ℕ) (w : List (List Kind)) (k : ℕ) (s : Store) : Type 0 where
-  pub handed : nextEntry s ≡ getD w k []
+  pub handed : nextGroup s ≡ getD w k []
   pub goes-on : suc k < length w → RunOf m w (suc k) (afterSecond s)
   pub ends : suc k ≡ length w → afterSecond s .running ≡ 255
 

@@ -4,7 +4,7 @@ use mathlib.Core.Path.{_≡_, refl, sym, ap, _∙_, subst}
 use mathlib.Core.List.{List, [], _∷_, _++_}
 use mathlib.Core.Bool.{Bool, true, false, cond, not, _&&_, true≢false}
 use native.Mathlib.Omega.{arith}
-use lib.ListN.{length, getD, set, replicate, length-append, length-set, length-replicate, List·getD-eq-default, getD-replicate}
+use lib.ListN.{length, getD, set, replicate, length-set, length-replicate, List·getD-eq-default, getD-replicate}
 use lib.Seq.{getD-set-same, getD-set-other}
 use lib.Dec.{T, leb, ltb, eqb}
 use borrow.Author.Tests.{ltb-true, ltb-false, leb-true, leb-false, eqb-true, eqb-false, not-true, not-false, lt-ltb, le-leb, lt-leb, eq-eqb, ne-eqb}
@@ -17,17 +17,18 @@ use Rattle.store.specs.declared.Store.{Store}
 use Rattle.store.specs.declared.roles.Role.{Role}
 use Rattle.store.specs.Roles.{roleOf}
 use Rattle.store.specs.Pool.{countOf, isClosed, usedIn, entriesOf, kept}
-use Rattle.store.specs.WrittenOut.{writtenOut}
-use Rattle.store.specs.Checks.{row11, row12, row13, row14, row15, row16, row17, row18, row19, permitCode, storeChecks}
+use Rattle.store.specs.WrittenOut.{expand, flat, itemsOf, seconds, mostIn, writtenOut}
+use Rattle.store.specs.Checks.{row11, row12, row13, row14, row15, row25, row16, row17, row18, row19, permitCode, storeChecks}
 use Rattle.store.specs.Effects.{storeWith, freshStore, appendedOf, openedOf, closedOf, startedOf}
 use Rattle.store.specs.Effects.{stoppedOf, clearedOf, executedAs, appliedOf, countedDown, afterSecond}
 use Rattle.store.specs.Sound.{allBelow, allOf, entryHolds, entriesHold, closedHolds, macroHolds, runningHolds, poolHolds, storeSound}
 use Rattle.store.proofs.Entries.{storedAs, stored-flag, stored-role, stored-judge}
 use Rattle.store.proofs.Kept.{kept-own, kept-other, kept-used, kept-length, opened-entries, opened-used, closed-entries, closed-used}
 use Rattle.store.proofs.Kept.{fresh-used, size-open, entries-length, entries-none}
-use Rattle.store.proofs.Flat.{Each, TargetIn, RunsIn, written-grown}
-use Rattle.store.proofs.Parts.{partOf, writtenAs, part-run, part-wait, part-other}
-use Rattle.store.proofs.WrittenOut.{written-is, written-first}
+use Rattle.store.proofs.Flat.{Each, TargetIn, RunsIn, flat-grown, written-same, items-append}
+use Rattle.store.proofs.Parts.{partOf, partsOf, Kept, parts-are, part-run, part-kept}
+use Rattle.store.proofs.Seconds.{length-closes}
+use Rattle.store.proofs.WaitLaws.{seconds-longer}
 
 -- A RUN's target is closed and below macro m; any other role has no target.
 abbrev pub TargetBelow : Store → ℕ → Role → Type 0
@@ -45,11 +46,12 @@ pub record SoundEntry (s : Store) (m : ℕ) (e : Command) : Type 0 where
   pub allowed : judgeCode e ≡ 0
   pub target : TargetBelow s m (roleOf (e .kind))
 
--- "each closed one has 1 .. and a length of 1 to 600"
+-- "each closed one has 1 .. and a length of 1 to 600", and no second with more than 64 entries (02, Q-2).
 pub record SoundClosed (s : Store) (m : ℕ) : Type 0 where
   pub some : 1 ≤ countOf s m
   pub lasts : 1 ≤ length (writtenOut s m)
   pub ends : length (writtenOut s m) ≤ 600
+  pub few : mostIn (writtenOut s m) ≤ 64
   pub entries : Each (SoundEntry s m) (entriesOf s m)
 
 -- "a running macro is closed with 1 to its length seconds left"
@@ -154,21 +156,25 @@ pub closed-of : (s : Store) (m : ℕ) → closedHolds s m ≡ true → SoundClos
 closed-of s m h =
     let n = countOf s m in
     let l = length (writtenOut s m) in
-    let h4 = both (leb 1 n && leb 1 l && leb l 600) (entriesHold s m) h in
+    let most = mostIn (writtenOut s m) in
+    let h5 = both (leb 1 n && leb 1 l && leb l 600 && leb most 64) (entriesHold s m) h in
+    let h4 = both (leb 1 n && leb 1 l && leb l 600) (leb most 64) (h5 .0) in
     let h3 = both (leb 1 n && leb 1 l) (leb l 600) (h4 .0) in
     let h2 = both (leb 1 n) (leb 1 l) (h3 .0) in
     record {
       some = leb-true 1 n (h2 .0);
       lasts = leb-true 1 l (h2 .1);
       ends = leb-true l 600 (h3 .1);
-      entries = entries-of s m (h4 .1);
+      few = leb-true most 64 (h4 .1);
+      entries = entries-of s m (h5 .1);
     }
 
 of-closed : (s : Store) (m : ℕ) → SoundClosed s m → closedHolds s m ≡ true
 of-closed s m h =
     let n = countOf s m in
     let l = length (writtenOut s m) in
-    rw (le-leb 1 n (h .some), le-leb 1 l (h .lasts), le-leb l 600 (h .ends)) (of-entries s m (h .entries))
+    let most = mostIn (writtenOut s m) in
+    rw (le-leb 1 n (h .some), le-leb 1 l (h .lasts), le-leb l 600 (h .ends), le-leb most 64 (h .few)) (of-entries s m (h .entries))
 
 running-of : (s : Store) → runningHolds s ≡ true → (s .running ≡ 255 → ⊥) → SoundRunning s
 running-of s h busy =
@@ -280,20 +286,26 @@ runs-in : (s : Store) (m : ℕ) (es : List Command) → Each (SoundEntry s m) es
 runs-in s m es h =
     each-map (SoundEntry s m) (λ e. TargetIn (isClosed s) (roleOf (e .kind))) (λ e p. target-in s m (roleOf (e .kind)) (p .target)) es h
 
--- 01, "closed macros stay fixed": where the closed macros are kept, so are their written-out lists; and that of any other macro
--- whose entries are kept and sound.
+-- 01, "closed macros stay fixed": where the closed macros are kept, so are their lists, RUNs replaced, and their written-out lists; and those of any
+-- other macro whose entries are kept and sound.
 module _ (s t : Store) (good : Good s) (ext : Extends s t) where
-  pub list-stays : (m : ℕ) → entriesOf t m ≡ entriesOf s m → Each (SoundEntry s m) (entriesOf s m) → writtenOut t m ≡ writtenOut s m
-  list-stays m own entries =
+  pub flat-stays : (m : ℕ) → entriesOf t m ≡ entriesOf s m → Each (SoundEntry s m) (entriesOf s m) → flat t m ≡ flat s m
+  flat-stays m own entries =
       sym
-      (written-grown s t (ext .marks) (λ k c. sym (ext .entries k c))
+      (flat-grown s t (ext .marks) (λ k c. sym (ext .entries k c))
       (λ k c. runs-in s k (entriesOf s k) (good .sound .closed k (closed-small s (good .shaped) k c) c .entries))
       m
       (sym own)
       (runs-in s m (entriesOf s m) entries))
 
+  pub flats-stay : (m : ℕ) → isClosed s m ≡ true → flat t m ≡ flat s m
+  flats-stay m c = flat-stays m (ext .entries m c) (good .sound .closed m (closed-small s (good .shaped) m c) c .entries)
+
+  pub list-stays : (m : ℕ) → entriesOf t m ≡ entriesOf s m → Each (SoundEntry s m) (entriesOf s m) → writtenOut t m ≡ writtenOut s m
+  list-stays m own entries = written-same t s m m (flat-stays m own entries)
+
   pub lists-stay : (m : ℕ) → isClosed s m ≡ true → writtenOut t m ≡ writtenOut s m
-  lists-stay m c = list-stays m (ext .entries m c) (good .sound .closed m (closed-small s (good .shaped) m c) c .entries)
+  lists-stay m c = written-same t s m m (flats-stay m c)
 
   -- So are the facts about its entries,
   target-stays : (m : ℕ) (r : Role) → TargetBelow s m r → TargetBelow t m r
@@ -319,6 +331,7 @@ module _ (s t : Store) (good : Good s) (ext : Extends s t) where
         some = rw (ext .counts m c) (h .some);
         lasts = rw (lists-stay m c) (h .lasts);
         ends = rw (lists-stay m c) (h .ends);
+        few = rw (lists-stay m c) (h .few);
         entries = rw (ext .entries m c) (entries-stay m (entriesOf s m) (h .entries));
       }
 
@@ -359,13 +372,14 @@ none-due (c ∷ cs) coded h = go (c .due) refl (none-due cs (coded .1))
 pub none-runs : (n : ℕ) → not (eqb n 255) ≡ false → n ≡ 255
 none-runs n h = eqb-true n 255 (not-false (eqb n 255) h)
 
--- What an accepted command passed: none of rows 11 to 19 holds.
+-- What an accepted command passed: none of rows 11 to 19 holds, nor 25.
 pub record Passed (s : Store) (flag : Bool) (role : Role) : Type 0 where
   pub no11 : row11 flag role (s .opened) ≡ false
   pub no12 : row12 role (s .opened) ≡ false
   pub no13 : row13 role (s .closed) ≡ false
   pub no14 : row14 role (countOf s (s .opened)) ≡ false
   pub no15 : row15 role (length (writtenOut s (s .opened))) ≡ false
+  pub no25 : row25 role (mostIn (writtenOut s (s .opened))) ≡ false
   pub no16 : row16 flag (usedIn s) ≡ false
   pub no17 : row17 flag role (s .opened) ≡ false
   pub no18 : row18 role (s .closed) ≡ false
@@ -374,17 +388,18 @@ pub record Passed (s : Store) (flag : Bool) (role : Role) : Type 0 where
 pub passes : (s : Store) (c : Command) → permitCode s c ≡ 0 → Passed s (c .flag) (roleOf (c .kind))
 unfolding permitCode
 passes s c h =
-    let none = none-due (storeChecks s c) (tt, (tt, (tt, (tt, (tt, (tt, (tt, (tt, (tt, tt))))))))) h in
+    let none = none-due (storeChecks s c) (tt, (tt, (tt, (tt, (tt, (tt, (tt, (tt, (tt, (tt, tt)))))))))) h in
     record {
       no11 = none .0;
       no12 = none .1 .0;
       no13 = none .1 .1 .0;
       no14 = none .1 .1 .1 .0;
       no15 = none .1 .1 .1 .1 .0;
-      no16 = none .1 .1 .1 .1 .1 .0;
-      no17 = none .1 .1 .1 .1 .1 .1 .0;
-      no18 = none .1 .1 .1 .1 .1 .1 .1 .0;
-      no19 = none .1 .1 .1 .1 .1 .1 .1 .1 .0;
+      no25 = none .1 .1 .1 .1 .1 .0;
+      no16 = none .1 .1 .1 .1 .1 .1 .0;
+      no17 = none .1 .1 .1 .1 .1 .1 .1 .0;
+      no18 = none .1 .1 .1 .1 .1 .1 .1 .1 .0;
+      no19 = none .1 .1 .1 .1 .1 .1 .1 .1 .1 .0;
     }
 
 -- What rows 8 to 10 leave of a role's number.
@@ -428,29 +443,44 @@ pub judged-role : (c : Command) → judgeCode c ≡ 0 → InRange (roleOf (c .ki
 judged-role c h = judged-kind (c .flag) (c .kind) h
 
 -- Every sound entry lasts at least a second, and so does the open macro where it has entries.
+kept-lasts : (kind : Kind) (r : Role) → roleOf kind ≡ r → InRange r → Kept r → 1 ≤ length (seconds (itemsOf (kind ∷ [])))
+unfolding seconds
+kept-lasts kind Role.Plain role range itself = rw role (omega arith)
+kept-lasts kind (Role.Open m) role range itself = rw role (omega arith)
+kept-lasts kind Role.Close role range itself = rw role (omega arith)
+kept-lasts kind (Role.Run m) role range itself = absurd itself
+kept-lasts kind (Role.Wait n) role range itself = rw (role, length-closes n []) (omega arith)
+kept-lasts kind Role.Stop role range itself = rw role (omega arith)
+kept-lasts kind Role.Clear role range itself = rw role (omega arith)
+
 part-lasts : (s : Store) → Good s → (m : ℕ) (e : Command) (r : Role) → roleOf (e .kind) ≡ r → InRange r → TargetBelow s m r
-    → 1 ≤ length (partOf s m e)
-part-lasts s good m e Role.Plain role range target = rw (part-other s m e Role.Plain role tt) (omega arith)
-part-lasts s good m e (Role.Open k) role range target = rw (part-other s m e (Role.Open k) role tt) (omega arith)
-part-lasts s good m e Role.Close role range target = rw (part-other s m e Role.Close role tt) (omega arith)
+    → 1 ≤ length (seconds (itemsOf (partOf s m e)))
+unfolding writtenOut
+part-lasts s good m e Role.Plain role range target = rw (part-kept s m e Role.Plain role tt) (kept-lasts (e .kind) Role.Plain role range tt)
+part-lasts s good m e (Role.Open k) role range target = rw (part-kept s m e (Role.Open k) role tt) (kept-lasts (e .kind) (Role.Open k) role range tt)
+part-lasts s good m e Role.Close role range target = rw (part-kept s m e Role.Close role tt) (kept-lasts (e .kind) Role.Close role range tt)
 part-lasts s good m e (Role.Run k) role range target =
     rw (part-run s m k e role (target .0) (target .1)) (good .sound .closed k range (target .1) .lasts)
-part-lasts s good m e (Role.Wait n) role range target = rw (part-wait s m n e role, length-replicate) range
-part-lasts s good m e Role.Stop role range target = rw (part-other s m e Role.Stop role tt) (omega arith)
-part-lasts s good m e Role.Clear role range target = rw (part-other s m e Role.Clear role tt) (omega arith)
+part-lasts s good m e (Role.Wait n) role range target = rw (part-kept s m e (Role.Wait n) role tt) (kept-lasts (e .kind) (Role.Wait n) role range tt)
+part-lasts s good m e Role.Stop role range target = rw (part-kept s m e Role.Stop role tt) (kept-lasts (e .kind) Role.Stop role range tt)
+part-lasts s good m e Role.Clear role range target = rw (part-kept s m e Role.Clear role tt) (kept-lasts (e .kind) Role.Clear role range tt)
 
-entries-last : (s : Store) → Good s → (m : ℕ) (es : List Command) → Each (SoundEntry s m) es → 1 ≤ length es → 1 ≤ length (writtenAs s m es)
+entries-last : (s : Store) → Good s → (m : ℕ) (es : List Command) → Each (SoundEntry s m) es → 1 ≤ length es
+    → 1 ≤ length (seconds (itemsOf (partsOf s m es)))
+unfolding expand
 entries-last s good m [] h some = absurd (omega arith)
 entries-last s good m (e ∷ es) h some =
     let first = part-lasts s good m e (roleOf (e .kind)) refl (judged-role e (h .0 .allowed)) (h .0 .target) in
-    omega (arith, ap length (written-first s m e es), length-append (partOf s m e) (writtenAs s m es))
+    rw (items-append (partOf s m e) (partsOf s m es))
+    (omega (arith, first, seconds-longer (itemsOf (partOf s m e)) (itemsOf (partsOf s m es))))
 
 macro-lasts : (s : Store) → Good s → s .opened < 8 → 1 ≤ countOf s (s .opened) → Each (SoundEntry s (s .opened)) (entriesOf s (s .opened))
     → 1 ≤ length (writtenOut s (s .opened))
+unfolding writtenOut
 macro-lasts s good small some entries =
     let m = s .opened in
     let long = entries-length s m (good .shaped .pool) (good .sound .fits) small in
-    rw (written-is s m) (entries-last s good m (entriesOf s m) entries (omega (arith, long, size-open s)))
+    rw (parts-are s m) (entries-last s good m (entriesOf s m) entries (omega (arith, long, size-open s)))
 
 -- No macro open, closed or running: a fresh store, and one just cleared.
 good-empty : (pool : List ℕ) (running left : ℕ) → length pool ≡ 576 → running ≡ 255 → left ≡ 0
@@ -611,7 +641,7 @@ opened-keeps s good m small free u =
     none : entriesOf (openedOf s m) m ≡ []
     none = entries-none (openedOf s m) m (getD-set-same (s .counts) m 0 0 (omega (arith, good .shaped .counts)))
 
--- CLOSE of the open macro, which has entries and is not too long.
+-- CLOSE of the open macro, which has entries, is not too long and has not too many entries in one second.
 pub closed-extends : (s : Store) → Shaped s → Extends s (closedOf s)
 closed-extends s shape =
     record {
@@ -627,8 +657,9 @@ closed-extends s shape =
         ap (isClosed (closedOf s)) same ∙ getD-set-same (s .closed) (s .opened) true false (omega (arith, shape .marks))
     go k c false e = getD-set-other (s .closed) (s .opened) k true false (eqb-false k (s .opened) e) ∙ c
 
-pub closed-keeps : (s : Store) → Good s → s .opened < 8 → 1 ≤ countOf s (s .opened) → length (writtenOut s (s .opened)) ≤ 600 → Good (closedOf s)
-closed-keeps s good small some short =
+pub closed-keeps : (s : Store) → Good s → s .opened < 8 → 1 ≤ countOf s (s .opened) → length (writtenOut s (s .opened)) ≤ 600
+    → mostIn (writtenOut s (s .opened)) ≤ 64 → Good (closedOf s)
+closed-keeps s good small some short few =
     record {
       shaped = record { pool = good .shaped .pool; counts = good .shaped .counts; marks = length-set (s .closed) m true ∙ good .shaped .marks };
       sound =
@@ -668,6 +699,7 @@ closed-keeps s good small some short =
           some = some;
           lasts = rw same (macro-lasts s good small some judged);
           ends = rw same short;
+          few = rw same few;
           entries = open-stays s t good ext m stay judged;
         }
 
@@ -782,7 +814,11 @@ executed-keeps s good (Role.Open m) range h = opened-keeps s good m range (none-
 executed-keeps s good Role.Close range h =
     let m = s .opened in
     let some = eqb-false (countOf s m) 0 (h .no14) in
-    closed-keeps s good (good .marks .opened (eqb-false m 255 (h .no11))) (omega arith) (ltb-false 600 (length (writtenOut s m)) (h .no15))
+    closed-keeps s good
+    (good .marks .opened (eqb-false m 255 (h .no11)))
+    (omega arith)
+    (ltb-false 600 (length (writtenOut s m)) (h .no15))
+    (ltb-false 64 (mostIn (writtenOut s m)) (h .no25))
 executed-keeps s good (Role.Run m) range h = started-keeps s good m (not-false (isClosed s m) (h .no18))
 executed-keeps s good (Role.Wait n) range h = good
 executed-keeps s good Role.Stop range h = stopped-keeps s good

@@ -1,6 +1,6 @@
--- Laws of the store's soundness: an entry by its words, tests of all entries and of all macros, one after another, and lengths that are told up
--- to 601.
-use Prim.Native.Nat.{ℕ, _+_, _%_, _≤_, _<_}
+-- Laws of the store's soundness: an entry by its words, tests of all entries and of all macros, one after another, and spans that are told up to
+-- 601 seconds and 65 entries.
+use Prim.Native.Nat.{ℕ, _+_, _%_, _≤_, _<_, min}
 use mathlib.Core.Path.{_≡_, refl, sym, ap, _∙_}
 use mathlib.Core.List.{List, [], _∷_}
 use mathlib.Core.Bool.{Bool, true, false, cond, not, _&&_, _||_, true≢false}
@@ -22,17 +22,20 @@ use Rattle.wire.specs.Table.{rowOf}
 use Rattle.wire.specs.Kind.{kindOf}
 use Rattle.wire.specs.Judge.{toldOf, toldJudged, firstBad, flagChecks, rowChecks}
 use Rattle.store.specs.declared.Store.{Store}
+use Rattle.store.specs.declared.spans.Span.{Span}
 use Rattle.store.specs.declared.tally.Tally.{Tally}
 use Rattle.store.specs.Roles.{roleOf, isRun, numberOf}
 use Rattle.store.specs.Words.{noCommand, commandFor}
 use Rattle.store.specs.Pool.{isClosed, usedIn, sizeOf, startOf, between}
-use Rattle.store.specs.WrittenOut.{writtenOut}
+use Rattle.store.specs.WrittenOut.{mostIn, writtenOut}
 use Rattle.store.specs.Checks.{row17, row18}
-use Rattle.store.specs.LookupSteps.{cappedLength, lengthsTo, TellsBelow, Due}
+use Rattle.store.specs.SpanSteps.{noSpan, lengthOf, toldSpan, spansTo, TellsBelow}
+use Rattle.store.specs.GroupSteps.{Clear, Due}
 use Rattle.store.specs.Sound.{allBelow, allOf, entryHolds, macroHolds, poolHolds, runningHolds, storeSound}
-use Rattle.store.specs.TallySteps.{storeOf, formHolds, macroBy}
+use Rattle.store.specs.TallySteps.{storeOf, spanBy, formHolds, macroBy}
 use Rattle.store.proofs.Entries.{in-range-judge}
 use Rattle.store.proofs.Walk.{entries-at}
+use Rattle.store.proofs.SpanTable.{told-length, told-most}
 use Rattle.store.proofs.Sound.{below-of, closed-of, sound-of, mark-small}
 
 -- A command passes 8 to 10 exactly where the wire's judgement allows it: no refusal has the code 0.
@@ -172,7 +175,7 @@ below-fail test n k h fails = go (allBelow n test) refl
     go true e = absurd (true≢false (sym (below-of n test e k h) ∙ fails))
     go false e = e
 
--- A length that is told up to 601 passes the tests against 1, 600 and the seconds left as the length itself does.
+-- A number that is told up to a cap passes a test against less than the cap as the number itself does.
 same-leb : (a b x y : ℕ) → (a ≤ b → x ≤ y) → (x ≤ y → a ≤ b) → leb a b ≡ leb x y
 same-leb a b x y there back = go (leb a b) (leb x y) refl refl
   where
@@ -182,34 +185,53 @@ same-leb a b x y there back = go (leb a b) (leb x y) refl refl
     go false true p q = absurd (omega (arith, back (leb-true x y q), leb-false a b p))
     go false false p q = refl
 
--- Macro m by a tally that has the lengths: where its entries start and how many they are is as in the store.
-pub macro-told : (ws : List ℕ) (t : Tally) (m start size : ℕ) (holds : Bool) → getD (t .lengths) m 0 ≡ cappedLength (storeOf ws t) m
+some-told : (told n : ℕ) → told ≡ min 601 n → leb 1 told ≡ leb 1 n
+some-told told n is = same-leb 1 told 1 n (λ h. omega arith) (λ h. omega arith)
+
+short-told : (told n : ℕ) → told ≡ min 601 n → leb told 600 ≡ leb n 600
+short-told told n is = same-leb told 600 n 600 (λ h. omega arith) (λ h. omega arith)
+
+few-told : (told n : ℕ) → told ≡ min 65 n → leb told 64 ≡ leb n 64
+few-told told n is = same-leb told 64 n 64 (λ h. omega arith) (λ h. omega arith)
+
+-- Macro m by a tally that has the spans: where its entries start and how many they are is as in the store.
+pub macro-told : (ws : List ℕ) (t : Tally) (m start size : ℕ) (holds : Bool) → spanBy t m ≡ toldSpan (storeOf ws t) m
     → start ≡ startOf (t .counts) (t .closed) (t .opened) m → size ≡ sizeOf (t .counts) (t .closed) (t .opened) m
     → holds ≡ macroBy t m (between ws start size) → holds ≡ macroHolds (storeOf ws t) m
-macro-told ws t m start size holds capped starts sized judged =
-    let told = getD (t .lengths) m 0 in
-    let l = length (writtenOut (storeOf ws t) m) in
-    let some : leb 1 told ≡ leb 1 l = same-leb 1 told 1 l (λ h. omega arith) (λ h. omega arith) in
-    let short : leb told 600 ≡ leb l 600 = same-leb told 600 l 600 (λ h. omega arith) (λ h. omega arith) in
-    judged ∙ rw (entries-at (storeOf ws t) m start size starts sized, some, short)
+macro-told ws t m start size holds told starts sized judged =
+    let s = storeOf ws t in
+    let l = length (writtenOut s m) in
+    let seconds : lengthOf (spanBy t m) ≡ min 601 l = ap lengthOf told ∙ told-length s m in
+    let most : spanBy t m .most ≡ min 65 (mostIn (writtenOut s m)) = ap (λ (a : Span). a .most) told ∙ told-most s m in
+    judged
+    ∙ rw (
+      entries-at s m start size starts sized,
+      some-told (lengthOf (spanBy t m)) l seconds,
+      short-told (lengthOf (spanBy t m)) l seconds,
+      few-told (spanBy t m .most) (mostIn (writtenOut s m)) most,
+    )
 
--- Where every macro holds, the running one's capped length is its length.
-pub running-told : (s : Store) (table : List ℕ) (holds : Bool) → length (s .closed) ≡ 8
+-- Where every macro holds, the running one's seconds are told as they are.
+whole-told : (told n : ℕ) → told ≡ min 601 n → n ≤ 600 → told ≡ n
+whole-told told n is fits = omega arith
+
+pub running-told : (s : Store) (table : List Span) (holds : Bool) → length (s .closed) ≡ 8
     → TellsBelow s 8 table
     → allBelow 8 (macroHolds s) ≡ true
-    → holds ≡ (eqb (s .running) 255 || (isClosed s (s .running) && leb 1 (s .left) && leb (s .left) (getD table (s .running) 0)))
+    → holds ≡ (eqb (s .running) 255 || (isClosed s (s .running) && leb 1 (s .left) && leb (s .left) (lengthOf (getD table (s .running) noSpan))))
     → holds ≡ runningHolds s
 running-told s table holds marks tells all judged = judged ∙ go (isClosed s (s .running)) refl
   where
     go : (t : Bool) → isClosed s (s .running) ≡ t
-        → (eqb (s .running) 255 || (t && leb 1 (s .left) && leb (s .left) (getD table (s .running) 0)))
+        → (eqb (s .running) 255 || (t && leb 1 (s .left) && leb (s .left) (lengthOf (getD table (s .running) noSpan))))
         ≡ (eqb (s .running) 255 || (t && leb 1 (s .left) && leb (s .left) (length (writtenOut s (s .running)))))
     go false shut = refl
     go true shut =
-        let number : s .running < 8 = mark-small (s .closed) (s .running) marks shut in
-        let fits = closed-of s (s .running) (rw shut at (below-of 8 (macroHolds s) all (s .running) number)) .ends in
-        let same : getD table (s .running) 0 ≡ length (writtenOut s (s .running)) = tells (s .running) number ∙ omega arith in
-        rw same
+        let m = s .running in
+        let number : m < 8 = mark-small (s .closed) m marks shut in
+        let fits = closed-of s m (rw shut at (below-of 8 (macroHolds s) all m number)) .ends in
+        let told = ap lengthOf (tells m number) ∙ told-length s m in
+        rw (whole-told (lengthOf (getD table m noSpan)) (length (writtenOut s m)) told fits)
 
 -- The whole store by what the code finds: too many entries, a macro that does not hold, or neither.
 module _ (s : Store) where
@@ -230,11 +252,12 @@ module _ (s : Store) where
   unfolding storeSound
   sound-by-running used running is fits all told = rw (le-leb (usedIn s) 192 (omega arith), all) told
 
--- So the macro that a sound store runs is one of the eight, and its length is told whole.
-pub running-due : (s : Store) (table : List ℕ) → length (s .closed) ≡ 8 → storeSound s ≡ true → (s .running ≡ 255 → ⊥) → table ≡ lengthsTo s 8
-    → Due s (s .running) table
-running-due s table marks sound busy is =
+-- So the macro that a sound store runs is one of the eight, its seconds are told whole, and none of them has more than 64 entries.
+pub running-due : (s : Store) (table : List Span) → length (s .closed) ≡ 8 → storeSound s ≡ true → (s .running ≡ 255 → ⊥) → table ≡ spansTo s 8
+    → Clear s → Due s (s .running) table
+running-due s table marks sound busy is clear =
     let judged = sound-of s sound in
     let closed = judged .running busy .closed in
     let number = mark-small (s .closed) (s .running) marks closed in
-    record { number = number; whole = judged .closed (s .running) number closed .ends; told = is }
+    let fits = judged .closed (s .running) number closed in
+    record { number = number; whole = fits .ends; few = fits .few; told = is; clear = clear }

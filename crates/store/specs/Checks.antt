@@ -1,4 +1,4 @@
--- Rows 11 to 19 of 01's codes, on a command that passed 8 to 10.
+-- Rows 11 to 19 of 01's codes and 25, which 02 (Q-2) puts behind 15, on a command that passed 8 to 10.
 use Prim.Native.Nat.{ℕ}
 use mathlib.Core.List.{List, [], _∷_}
 use mathlib.Core.Bool.{Bool, false, not, _&&_, _||_}
@@ -12,7 +12,7 @@ use Rattle.store.specs.declared.checks.Denial.{Denial}
 use Rattle.store.specs.declared.checks.Permit.{Permit}
 use Rattle.store.specs.Roles.{roleOf, isOpen, isClose, isRun, isClear, numberOf}
 use Rattle.store.specs.Pool.{countOf, usedIn}
-use Rattle.store.specs.WrittenOut.{writtenOut}
+use Rattle.store.specs.WrittenOut.{mostIn, writtenOut}
 
 -- 01's number of each denial; 0 is permission.
 abbrev pub codeOf : Denial → ℕ
@@ -21,6 +21,7 @@ codeOf Denial.AnotherOpen = 12
 codeOf Denial.AlreadyClosed = 13
 codeOf Denial.NoEntries = 14
 codeOf Denial.TooLong = 15
+codeOf Denial.TooMany = 25
 codeOf Denial.NoneFree = 16
 codeOf Denial.NotBelow = 17
 codeOf Denial.NotClosed = 18
@@ -50,6 +51,10 @@ row14 role count = isClose role && eqb count 0
 abbrev pub row15 : Role → ℕ → Bool
 row15 role seconds = isClose role && ltb 600 seconds
 
+-- "25 at CLOSE where any second has more than 64 entries, after 15" (02, Q-2).
+abbrev pub row25 : Role → ℕ → Bool
+row25 role most = isClose role && ltb 64 most
+
 -- "Code 16 now means that no entry is free" (02, Q-9).
 abbrev pub row16 : Bool → ℕ → Bool
 row16 flag used = flag && leb 192 used
@@ -66,15 +71,16 @@ row18 role closed = isRun role && not (getD closed (numberOf role) false)
 abbrev pub row19 : Bool → Role → ℕ → Bool
 row19 flag role running = ((not flag && isRun role) || isClear role) && not (eqb running 255)
 
--- The rows in their order, on the numbers that they ask: how many entries the open macro has, how many seconds it lasts, and how many entries are in
--- use.
-abbrev pub rowsFor : Bool → Role → ℕ → List Bool → ℕ → ℕ → ℕ → ℕ → List Check
-rowsFor flag role opened closed count seconds used running =
+-- The rows in their order, on the numbers that they ask: how many entries the open macro has, how many seconds it lasts, the most entries that one of
+-- them has, and how many entries are in use.
+abbrev pub rowsFor : Bool → Role → ℕ → List Bool → ℕ → ℕ → ℕ → ℕ → ℕ → List Check
+rowsFor flag role opened closed count seconds most used running =
     11 when row11 flag role opened
     ∷ 12 when row12 role opened
     ∷ 13 when row13 role closed
     ∷ 14 when row14 role count
     ∷ 15 when row15 role seconds
+    ∷ 25 when row25 role most
     ∷ 16 when row16 flag used
     ∷ 17 when row17 flag role opened
     ∷ 18 when row18 role closed
@@ -83,7 +89,8 @@ rowsFor flag role opened closed count seconds used running =
 
 abbrev pub checksAs : Store → Bool → Role → List Check
 checksAs s flag role =
-    rowsFor flag role (s .opened) (s .closed) (countOf s (s .opened)) (length (writtenOut s (s .opened))) (usedIn s) (s .running)
+    let list = writtenOut s (s .opened) in
+    rowsFor flag role (s .opened) (s .closed) (countOf s (s .opened)) (length list) (mostIn list) (usedIn s) (s .running)
 
 abbrev pub storeChecks : Store → Command → List Check
 storeChecks s c = checksAs s (c .flag) (roleOf (c .kind))

@@ -1,15 +1,16 @@
 -- What an accepted command does to the store, and what a second does.
-use Prim.Native.Nat.{ℕ, _-_}
-use mathlib.Core.List.{List, [], _∷_}
+use Prim.Native.Nat.{ℕ, _*_, _-_}
+use mathlib.Core.List.{List, [], _∷_, _++_, map}
 use mathlib.Core.Bool.{Bool, true, false, cond}
-use lib.ListN.{length, getD, set, replicate}
+use lib.ListN.{length, getD, set, take, replicate}
 use lib.Dec.{eqb}
 use Rattle.wire.specs.declared.kinds.Kind.{Kind}
 use Rattle.wire.specs.declared.kinds.Command.{Command}
 use Rattle.store.specs.declared.Store.{Store}
 use Rattle.store.specs.declared.roles.Role.{Role}
-use Rattle.store.specs.declared.lookup.Handed.{Handed}
+use Rattle.store.specs.declared.groups.Group.{Group}
 use Rattle.store.specs.Roles.{roleOf}
+use Rattle.store.specs.Words.{wordsOf, noCommand, commandsIn}
 use Rattle.store.specs.Pool.{idle, takes, kept}
 use Rattle.store.specs.WrittenOut.{writtenOut}
 
@@ -59,17 +60,34 @@ executedAs s Role.Clear = clearedOf s
 unfoldable pub appliedOf : Store → Command → Store
 appliedOf s c = cond (c .flag) (appendedOf s c) (executedAs s (roleOf (c .kind)))
 
--- What was handed over, as a list of none or one.
-abbrev pub handedOf : Handed → List Kind
-handedOf Handed.Nothing = []
-handedOf (Handed.Over kind) = kind ∷ []
+-- "A second's answer is that group" (02, Q-2): the words of its entries, in order and as the pool has them, and how many entries they are. The places
+-- behind them, up to 64 entries, hold zeros.
+abbrev pub entryWords : Kind → List ℕ
+entryWords kind = wordsOf (record { flag = true; kind = kind })
 
--- "if a macro runs, the next entry of its written-out list is handed over ..": of L seconds with `left` left, entry L - left.
-abbrev pub entryDue : Store → ℕ → ℕ → List Kind
-entryDue s m left = getD (writtenOut s m) (length (writtenOut s m) - left) []
+unfoldable pub groupWords : List Kind → List ℕ
+groupWords [] = []
+groupWords (k ∷ ks) = entryWords k ++ groupWords ks
 
-abbrev pub nextEntry : Store → List Kind
-nextEntry s = cond (idle s) [] (entryDue s (s .running) (s .left))
+abbrev pub shownAs : List Kind → List ℕ
+shownAs ks = groupWords ks ++ replicate (192 - length ks * 3) 0
+
+abbrev pub groupOf : List Kind → Group
+groupOf ks = record { words = shownAs ks; count = length ks }
+
+-- The kinds that words say, and those of a group.
+abbrev pub kindAt : List ℕ → ℕ → Kind
+kindAt words i = getD (commandsIn words) i noCommand .kind
+
+abbrev pub kindsIn : Group → List Kind
+kindsIn g = map (λ (c : Command). c .kind) (take (g .count) (commandsIn (g .words)))
+
+-- "if a macro runs, the next .. of its written-out list is handed over ..": of L seconds with `left` left, group L - left.
+abbrev pub groupDue : Store → ℕ → ℕ → List Kind
+groupDue s m left = getD (writtenOut s m) (length (writtenOut s m) - left) []
+
+abbrev pub nextGroup : Store → List Kind
+nextGroup s = cond (idle s) [] (groupDue s (s .running) (s .left))
 
 -- ".. after the last one the bench is idle."
 abbrev pub countedDown : Store → Store

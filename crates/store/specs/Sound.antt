@@ -9,7 +9,7 @@ use Rattle.wire.specs.Judge.{judgeCode}
 use Rattle.store.specs.declared.Store.{Store}
 use Rattle.store.specs.Roles.{roleOf}
 use Rattle.store.specs.Pool.{countOf, isClosed, idle, usedIn, entriesOf}
-use Rattle.store.specs.WrittenOut.{writtenOut}
+use Rattle.store.specs.WrittenOut.{mostIn, writtenOut}
 use Rattle.store.specs.Checks.{row17, row18}
 
 -- A test of every number below n, and of every element.
@@ -30,12 +30,13 @@ entryHolds closed m e =
 abbrev pub entriesHold : Store → ℕ → Bool
 entriesHold s m = allOf (entryHolds (s .closed) m) (entriesOf s m)
 
--- "each closed one has 1 .. and a length of 1 to 600"
+-- "each closed one has 1 .. and a length of 1 to 600", and no second with more than 64 entries (02, Q-2).
 abbrev pub closedHolds : Store → ℕ → Bool
 closedHolds s m =
     leb 1 (countOf s m)
     && leb 1 (length (writtenOut s m))
     && leb (length (writtenOut s m)) 600
+    && leb (mostIn (writtenOut s m)) 64
     && entriesHold s m
 
 -- A macro that is neither closed nor open is not judged.

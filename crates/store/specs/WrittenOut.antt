@@ -1,9 +1,9 @@
--- "The written-out list of a macro takes its entries in order; an appended RUN is replaced by the whole written-out list of its target,
--- and WAIT n by n entries that do nothing."
-use Prim.Native.Nat.{ℕ, zero, suc}
-use mathlib.Core.List.{List, [], _∷_, _++_}
+-- The written-out list of a macro: its entries in order, "an appended RUN is replaced by the whole written-out list of its target", and then second
+-- by second: "a second hands over all entries up to the next WAIT (not itself) or the end" (02, Q-2).
+use Prim.Native.Nat.{ℕ, zero, suc, max}
+use mathlib.Core.List.{List, [], _∷_, _++_, map}
 use mathlib.Core.Bool.{Bool, true, false, cond}
-use lib.ListN.{replicate}
+use lib.ListN.{length, replicate}
 use lib.Dec.{eqb}
 use Rattle.wire.specs.declared.kinds.Kind.{Kind}
 use Rattle.wire.specs.declared.kinds.Command.{Command}
@@ -40,22 +40,44 @@ flatBelow closed entries (suc n) m =
 unfoldable pub flat : Store → ℕ → List Kind
 flat s m = flatBelow (isClosed s) (entriesOf s) (suc m) m
 
--- What one kind hands over, before what the rest does: WAIT n is n seconds of nothing, any other kind is one second of itself.
-abbrev pub handOver : Role → Kind → List (List Kind) → List (List Kind)
-handOver Role.Plain kind rest = (kind ∷ []) ∷ rest
-handOver (Role.Open m) kind rest = (kind ∷ []) ∷ rest
-handOver Role.Close kind rest = (kind ∷ []) ∷ rest
-handOver (Role.Run m) kind rest = (kind ∷ []) ∷ rest
-handOver (Role.Wait n) kind rest = replicate n [] ++ rest
-handOver Role.Stop kind rest = (kind ∷ []) ∷ rest
-handOver Role.Clear kind rest = (kind ∷ []) ∷ rest
+-- What a kind is to the seconds, once RUNs are replaced: an entry that is handed over, or a WAIT.
+pub data Item : Type 0 where
+  entry : Kind → Item
+  wait : ℕ → Item
 
--- Second by second: nothing, or the one kind that is handed over.
-unfoldable pub seconds : List Kind → List (List Kind)
+abbrev pub itemAs : Role → Kind → Item
+itemAs Role.Plain kind = Item.entry kind
+itemAs (Role.Open m) kind = Item.entry kind
+itemAs Role.Close kind = Item.entry kind
+itemAs (Role.Run m) kind = Item.entry kind
+itemAs (Role.Wait n) kind = Item.wait n
+itemAs Role.Stop kind = Item.entry kind
+itemAs Role.Clear kind = Item.entry kind
+
+abbrev pub itemOf : Kind → Item
+itemOf kind = itemAs (roleOf kind) kind
+
+abbrev pub itemsOf : List Kind → List Item
+itemsOf ks = map itemOf ks
+
+-- One kind more at the front of the first second; where there is none, it makes one.
+abbrev pub inFirst : Kind → List (List Kind) → List (List Kind)
+inFirst kind [] = (kind ∷ []) ∷ []
+inFirst kind (group ∷ later) = (kind ∷ group) ∷ later
+
+-- Second by second, the group of kinds that each one hands over: an entry comes first in the second of what follows it, and "WAIT n closes its second
+-- and is followed by n-1 empty ones". (A WAIT of 0 is in no store; it would add nothing.)
+unfoldable pub seconds : List Item → List (List Kind)
 seconds [] = []
-seconds (k ∷ ks) = handOver (roleOf k) k (seconds ks)
+seconds (Item.entry kind ∷ items) = inFirst kind (seconds items)
+seconds (Item.wait n ∷ items) = replicate n [] ++ seconds items
 
--- The written-out list of macro m, and its length in seconds.
+-- The most entries that any of these seconds has.
+unfoldable pub mostIn : List (List Kind) → ℕ
+mostIn [] = 0
+mostIn (group ∷ later) = max (length group) (mostIn later)
+
+-- The written-out list of macro m: a group to each of its seconds.
 unfoldable pub writtenOut : Store → ℕ → List (List Kind)
 unfolding flat
-writtenOut s m = seconds (flat s m)
+writtenOut s m = seconds (itemsOf (flat s m))

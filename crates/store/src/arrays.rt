@@ -5,6 +5,7 @@ ghost use lib.ListN.{getD, set};
 ghost use Rattle.store.specs.Words.{bit};
 ghost use Rattle.store.specs.Pool.{marksOf};
 use super::MACROS;
+use super::spans::Span;
 
 // The entries that a macro has; none for a number that no macro has.
 pub(crate) fn count_at(counts: [u8; 8], m: u8) -> u8
@@ -33,14 +34,14 @@ pub(crate) fn with_count(counts: [u8; 8], m: u8, count: u8) -> [u8; 8]
     next
 }
 
-// The lengths with another one for macro m.
-pub(crate) fn with_length(lengths: [u16; 8], m: u8, length: u16) -> [u16; 8]
-    ensures { λ r. ⌜ r ≡ set lengths m length ⌝ }
+// The spans with another one for macro m.
+pub(crate) fn with_span(spans: [Span; 8], m: u8, span: Span) -> [Span; 8]
+    ensures { λ r. ⌜ r ≡ set spans m span ⌝ }
 {
-    let mut next = lengths;
+    let mut next = spans;
     let at = m as usize;
     if at < MACROS {
-        next[at] = length;
+        next[at] = span;
     }
     next
 }

@@ -1,9 +1,10 @@
-// Rows 11 to 19 of the codes, each as a test on the few numbers that it looks at.
+// Rows 11 to 19 and 25 of the codes, each as a test on the few numbers that it looks at.
 ghost use mathlib.Core.Path.{_≡_};
 ghost use Rattle.wire.specs.Codes.{firstOf};
-ghost use Rattle.store.specs.Checks.{codeOf, toldPermit, row11, row12, row13, row14, row15, row17, row18, row19};
+ghost use Rattle.store.specs.Checks.{codeOf, toldPermit, row11, row12, row13, row14, row15, row25, row17, row18, row19};
 ghost use Rattle.store.specs.TallySteps.{entryChecks};
 use super::ENTRIES;
+use super::GROUP;
 use super::LONGEST;
 use super::NONE;
 use super::arrays::closed_at;
@@ -20,6 +21,7 @@ pub enum Denial {
     AlreadyClosed,
     NoEntries,
     TooLong,
+    TooMany,
     NoneFree,
     NotBelow,
     NotClosed,
@@ -41,6 +43,7 @@ pub fn code_of(denial: Denial) -> u8
         Denial::AlreadyClosed => 13,
         Denial::NoEntries => 14,
         Denial::TooLong => 15,
+        Denial::TooMany => 25,
         Denial::NoneFree => 16,
         Denial::NotBelow => 17,
         Denial::NotClosed => 18,
@@ -93,6 +96,17 @@ pub(crate) fn closes_too_long(role: Role, length: u16) -> bool
 {
     if is_close(role) {
         LONGEST < length
+    } else {
+        false
+    }
+}
+
+// Row 25: CLOSE where a second has more entries than GROUP.
+pub(crate) fn closes_too_many(role: Role, most: u8) -> bool
+    ensures { λ r. ⌜ r ≡ row25 role most ⌝ }
+{
+    if is_close(role) {
+        GROUP < most as usize
     } else {
         false
     }

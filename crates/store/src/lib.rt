@@ -1,4 +1,4 @@
-// The macro store: what each macro holds, which is open or runs, codes 11 to 19, the written-out list of a macro and its seconds.
+// The macro store: what each macro holds, which is open or runs, codes 11 to 19 and 25, the written-out list of a macro and its seconds.
 // Every public function is total: a store that no command sequence can reach is answered too, and nothing runs on.
 ghost use mathlib.Core.Path.{_≡_};
 ghost use mathlib.Core.Bool.{cond};
@@ -6,21 +6,25 @@ ghost use lib.Dec.{eqb};
 ghost use Rattle.store.specs.Pool.{marksOf};
 ghost use Rattle.store.specs.Effects.{freshStore};
 ghost use Rattle.store.specs.TallySteps.{storeOf, bareOf, surveyOf};
-ghost use Rattle.store.specs.SecondSteps.{stepWith, stepOf, steppedOf};
+ghost use Rattle.store.specs.SecondSteps.{stepWith, steppedOf};
 
 mod arrays;
 mod checks;
-mod lookup;
+mod groups;
 mod pool;
 mod roles;
 mod soundness;
+mod spans;
 mod tally;
 
 pub use checks::Denial;
 pub use checks::Permit;
 pub use checks::code_of;
-pub use lookup::Handed;
+pub use groups::Group;
+pub use groups::group_size;
+pub use groups::handed_at;
 pub use roles::Role;
+pub use spans::Span;
 pub use tally::Survey;
 pub use tally::Tally;
 pub use tally::keep;
@@ -36,6 +40,10 @@ const NONE: u8 = 255;
 const LONGEST: u16 = 600;
 
 const TOO_LONG: u16 = 601;
+// The most entries that one second has, and the number that every larger one is told as.
+pub const GROUP: usize = 64;
+
+const TOO_MANY: u8 = 65;
 
 // An open or a closed macro m has `counts[m]` entries. All entries lie in one pool, three words to each (pool.rt).
 pub struct Store {
@@ -47,22 +55,22 @@ pub struct Store {
     pub left: u16,
 }
 
-// A second's step: whether the store is sound, the macro that runs afterwards with its seconds left, and what was handed over.
+// A second's step: whether the store is sound, the macro that runs afterwards with its seconds left, and the group that was handed over.
 pub struct Step {
     pub sound: bool,
     pub running: u8,
     pub left: u16,
-    pub handed: Handed,
+    pub group: Group,
 }
 
-fn step_with(sound: bool, running: u8, left: u16, handed: Handed) -> Step
-    ensures { λ r. ⌜ r ≡ stepWith sound running left handed ⌝ }
+fn step_with(sound: bool, running: u8, left: u16, group: Group) -> Step
+    ensures { λ r. ⌜ r ≡ stepWith sound running left group ⌝ }
 {
     Step {
         sound,
         running,
         left,
-        handed,
+        group,
     }
 }
 
@@ -103,7 +111,7 @@ impl Store {
         }
     }
 
-    // The store's numbers and marks, as a tally whose lengths are not worked out.
+    // The store's numbers and marks, as a tally whose spans are not worked out.
     pub fn bare(self) -> Tally
         ensures { λ r. ⌜ r ≡ bareOf self ⌝ }
     {
@@ -112,7 +120,7 @@ impl Store {
         Tally {
             counts,
             closed,
-            lengths: [0; 8],
+            spans: spans::no_spans(),
             opened: self.opened,
             running: self.running,
             left: self.left,
@@ -120,35 +128,35 @@ impl Store {
     }
 }
 
-// The store's part of a sound state, and its tally; the lengths are worked out once for both. The lengths that come with the tally are not asked.
+// The store's part of a sound state, and its tally; the spans are worked out once for both. The spans that come with the tally are not asked.
 pub fn survey(pool: &[u32; 576], tally: Tally) -> Survey
     ensures { λ r. ⌜ r ≡ surveyOf (storeOf (now (pool .entry)) tally) ⌝ }
 {
-    let measured = lookup::lengths_below(pool, tally, MACROS as u8);
-    let lengths = measured.lengths;
-    let tally = Tally { lengths, ..tally };
+    let measured = spans::spans_below(pool, tally, MACROS as u8);
+    let spans = measured.spans;
+    let tally = Tally { spans, ..tally };
     let sound = soundness::holds(pool, tally, measured.end);
     Survey { sound, tally }
 }
 
-// The second of the two things that a second does: the running macro's next entry is handed over, and one second less is left. A store that is
+// The second of the two things that a second does: the running macro's next group is handed over, and one second less is left. A store that is
 // not sound stays.
 pub fn second(pool: &[u32; 576], tally: Tally) -> Step
-    ensures { λ r. ⌜ stepOf r ≡ steppedOf (storeOf (now (pool .entry)) tally) ⌝ }
+    ensures { λ r. ⌜ r ≡ steppedOf (storeOf (now (pool .entry)) tally) ⌝ }
 {
     let running = tally.running;
     let left = tally.left;
     let survey = survey(pool, tally);
     if !survey.sound {
-        return step_with(false, running, left, Handed::Nothing);
+        return step_with(false, running, left, Group::none());
     }
     if running == NONE {
-        return step_with(true, running, left, Handed::Nothing);
+        return step_with(true, running, left, Group::none());
     }
     let tally = survey.tally;
-    let handed = lookup::next_in(pool, tally, running, left);
-    let left = lookup::less(left, 1);
-    step_with(true, still_running(running, left), left, handed)
+    let group = groups::group_due(pool, tally, running, left);
+    let left = spans::less(left, 1);
+    step_with(true, still_running(running, left), left, group)
 }
 
 // The closed macros as a byte, bit m for macro m.

@@ -1,12 +1,13 @@
 // One pool for the entries of all macros: where each macro's entries lie, what the words of an entry say, and one entry more.
 // The macros in use, open or closed, lie one behind another in the order of their numbers, so that where one starts follows from the counts.
-ghost use Prim.Native.Nat.{_+_, _/_, _<_, _≤_, min};
+ghost use Prim.Native.Nat.{_+_, _*_, _/_, _<_, _≤_, min};
 ghost use mathlib.Core.Path.{_≡_};
 ghost use lib.ListN.{length, getD};
 ghost use Rattle.wire.specs.Table.{ruleOf};
 ghost use Rattle.store.specs.Words.{noCommand, commandsIn, headOf, inserted};
 ghost use Rattle.store.specs.Pool.{inUse, sizeOf, startOf, usedOf, wordsAfter};
 ghost use Rattle.store.specs.PoolSteps.{commandIn, raised};
+ghost use Rattle.store.specs.GroupSteps.{wordsIn, wordsAt};
 use super::ENTRIES;
 use super::MACROS;
 use super::arrays::bit_of;
@@ -15,10 +16,9 @@ use super::arrays::count_at;
 use wire::Command;
 use wire::Form;
 use wire::Found;
-use wire::Kind;
 
 // The words of an entry: the opcode with the flag as its lowest bit, and the two arguments.
-const WORDS: usize = 3;
+pub(crate) const WORDS: usize = 3;
 // An opcode has 16 bits.
 const OPCODES: u32 = 65536;
 
@@ -94,38 +94,11 @@ pub(crate) fn found_in(head: u32) -> Found
     }
 }
 
-fn no_command() -> Command
-    ensures { λ r. ⌜ r ≡ noCommand ⌝ }
-{
-    Command {
-        flag: false,
-        kind: Kind::ImgPwr(0),
-    }
-}
-
-// The command that an entry's words say.
-pub(crate) fn command_of(entry: Entry) -> Command
-    ensures { λ r. ⌜ r ≡ commandIn entry ⌝ }
-{
-    match found_in(entry.head) {
-        Found::Unknown => no_command(),
-        Found::Known(form, _) => {
-            if wire::first_bad(wire::row_of(form), entry.first, entry.second) == 0 {
-                Command {
-                    flag: entry.head % 2 == 1,
-                    kind: wire::kind_of(form, entry.first, entry.second),
-                }
-            } else {
-                no_command()
-            }
-        }
-    }
-}
-
-// Entry i of the pool, by its words.
+// Entry i of the pool, or of a group, by its words.
 pub(crate) fn entry_at(words: &[u32], i: usize) -> Entry
-    requires { ⌜ (length (now words) ≡ 576) × (i < 192) ⌝ }
+    requires { ⌜ (i < 192) × (i * 3 + 3 ≤ length (now words)) ⌝ }
     ensures { λ r. ⌜ commandIn r ≡ getD (commandsIn (now (words .entry))) i noCommand ⌝ }
+    ensures { λ r. ⌜ wordsIn r ≡ wordsAt (now (words .entry)) i ⌝ }
 {
     let at = i * WORDS;
     Entry {

@@ -1,5 +1,5 @@
 // The store's part of a sound state: the entries in use, then every macro against its rules, then the running one.
-// Each entry is visited once; the table of lengths comes from the caller.
+// Each entry is visited once; the table of spans comes from the caller.
 ghost use Prim.Native.Nat.{_≤_};
 ghost use mathlib.Core.Path.{_≡_};
 ghost use mathlib.Core.Bool.{true, false, _&&_, _||_};
@@ -10,20 +10,23 @@ ghost use Rattle.wire.specs.Judge.{rowChecks};
 ghost use Rattle.store.specs.Pool.{between};
 ghost use Rattle.store.specs.Sound.{entryHolds, storeSound};
 ghost use Rattle.store.specs.PoolSteps.{commandIn};
-ghost use Rattle.store.specs.LookupSteps.{lengthsTo};
+ghost use Rattle.store.specs.SpanSteps.{lengthOf, noSpan, spansTo};
 ghost use Rattle.store.specs.TallySteps.{storeOf, usedBy, formHolds, entriesBy, macroBy};
 use super::ENTRIES;
+use super::GROUP;
 use super::LONGEST;
 use super::MACROS;
 use super::NONE;
 use super::arrays::closed_at;
 use super::arrays::count_at;
-use super::lookup::length_at;
 use super::pool::Entry;
 use super::pool::end_of;
 use super::pool::entry_at;
 use super::pool::found_in;
 use super::pool::size_of;
+use super::spans::Span;
+use super::spans::seconds_of;
+use super::spans::span_at;
 use super::tally::Tally;
 use wire::Form;
 use wire::Found;
@@ -108,29 +111,33 @@ fn entries_hold(words: &[u32], start: usize, size: usize, m: u8, closed: [bool; 
     true
 }
 
-// A closed macro has an entry at least, and runs 1 to LONGEST seconds.
-fn closed_fits(count: u8, length: u16) -> bool
-    ensures { λ r. ⌜ r ≡ (leb 1 count && leb 1 length && leb length 600) ⌝ }
+// A closed macro has an entry at least, runs 1 to LONGEST seconds, and has at most GROUP entries in each.
+fn closed_fits(count: u8, span: Span) -> bool
+    ensures { λ r. ⌜ r ≡ (leb 1 count && leb 1 (lengthOf span) && leb (lengthOf span) 600 && leb (span .most) 64) ⌝ }
 {
+    let length = seconds_of(span);
     if count < 1 {
         return false;
     }
     if length < 1 {
         return false;
     }
-    length <= LONGEST
+    if LONGEST < length {
+        return false;
+    }
+    (span.most as usize) <= GROUP
 }
 
-// Does macro m hold, whose entries start here, by a tally that has the lengths? One that is neither closed nor open is not judged.
+// Does macro m hold, whose entries start here, by a tally that has the spans? One that is neither closed nor open is not judged.
 fn macro_holds(words: &[u32], tally: Tally, start: usize, size: usize, m: u8) -> bool
     requires { ⌜ (length (now words) ≡ 576) × (size ≤ 255) ⌝ }
     ensures { λ r. ⌜ r ≡ macroBy tally m (between (now (words .entry)) start size) ⌝ }
 {
     let counts = tally.counts;
     let closed = tally.closed;
-    let lengths = tally.lengths;
+    let spans = tally.spans;
     if closed_at(closed, m) {
-        if closed_fits(count_at(counts, m), length_at(lengths, m)) {
+        if closed_fits(count_at(counts, m), span_at(spans, m)) {
             return entries_hold(words, start, size, m, closed);
         }
         return false;
@@ -142,8 +149,8 @@ fn macro_holds(words: &[u32], tally: Tally, start: usize, size: usize, m: u8) ->
 }
 
 // A running macro is closed, with 1 to its length seconds left.
-fn running_holds(running: u8, left: u16, closed: [bool; 8], table: [u16; 8]) -> bool
-    ensures { λ r. ⌜ r ≡ (eqb running 255 || (getD closed running false && leb 1 left && leb left (getD table running 0))) ⌝ }
+fn running_holds(running: u8, left: u16, closed: [bool; 8], table: [Span; 8]) -> bool
+    ensures { λ r. ⌜ r ≡ (eqb running 255 || (getD closed running false && leb 1 left && leb left (lengthOf (getD table running noSpan)))) ⌝ }
 {
     if running == NONE {
         return true;
@@ -154,13 +161,13 @@ fn running_holds(running: u8, left: u16, closed: [bool; 8], table: [u16; 8]) -> 
     if left < 1 {
         return false;
     }
-    left <= length_at(table, running)
+    left <= seconds_of(span_at(table, running))
 }
 
-// The whole store, by a tally that has the lengths, and its entries in use.
+// The whole store, by a tally that has the spans, and its entries in use.
 pub(crate) fn holds(words: &[u32], tally: Tally, used: usize) -> bool
     requires { ⌜ length (now words) ≡ 576 ⌝ }
-    requires { ⌜ (tally .lengths ≡ lengthsTo (storeOf (now words) tally) 8) × (used ≡ usedBy tally) ⌝ }
+    requires { ⌜ (tally .spans ≡ spansTo (storeOf (now words) tally) 8) × (used ≡ usedBy tally) ⌝ }
     ensures { λ r. ⌜ r ≡ storeSound (storeOf (now (words .entry)) tally) ⌝ }
 {
     if ENTRIES < used {
@@ -168,7 +175,7 @@ pub(crate) fn holds(words: &[u32], tally: Tally, used: usize) -> bool
     }
     let counts = tally.counts;
     let closed = tally.closed;
-    let lengths = tally.lengths;
+    let spans = tally.spans;
     let mut start = 0;
     let mut m: u8 = 0;
     while (m as usize) < MACROS {
@@ -179,5 +186,5 @@ pub(crate) fn holds(words: &[u32], tally: Tally, used: usize) -> bool
         start += size;
         m += 1;
     }
-    running_holds(tally.running, tally.left, closed, lengths)
+    running_holds(tally.running, tally.left, closed, spans)
 }

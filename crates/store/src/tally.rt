@@ -1,5 +1,5 @@
-// A tally: the store without its pool, and how long each macro is. It is all that codes 11 to 19 ask, so a run of lists judges and carries out its
-// commands by a tally, and the pool stays where it is.
+// A tally: the store without its pool, and what each macro spans. It is all that codes 11 to 19 and 25 ask, so a run of lists judges and carries out
+// its commands by a tally, and the pool stays where it is.
 ghost use mathlib.Core.Path.{_≡_};
 ghost use Rattle.store.specs.Checks.{toldPermit};
 ghost use Rattle.store.specs.TallySteps.{usedBy, freeBy, takesBy, passesBy, tallyCode, poolAfter, appendedBy, executedBy, tallyAfter};
@@ -10,19 +10,22 @@ use super::arrays;
 use super::checks;
 use super::checks::Denial;
 use super::checks::Permit;
-use super::lookup::added;
-use super::lookup::length_at;
-use super::lookup::span_in;
 use super::pool;
 use super::roles::Role;
 use super::roles::is_plain;
 use super::roles::role_of;
+use super::spans::Span;
+use super::spans::beat_of;
+use super::spans::joined_with;
+use super::spans::no_span;
+use super::spans::seconds_of;
+use super::spans::span_at;
 use wire::Command;
 
 pub struct Tally {
     pub counts: [u8; 8],
     pub closed: [bool; 8],
-    pub lengths: [u16; 8],
+    pub spans: [Span; 8],
     pub opened: u8,
     pub running: u8,
     pub left: u16,
@@ -42,7 +45,7 @@ fn passes_by(flag: bool, role: Role) -> bool
 }
 
 impl Tally {
-    // Codes 11 to 19, on a command that passed 8 to 10.
+    // Codes 11 to 19 and 25, on a command that passed 8 to 10.
     pub fn permits(self, command: Command) -> Permit
         ensures { λ r. ⌜ toldPermit r ≡ tallyCode self command ⌝ }
     {
@@ -54,9 +57,10 @@ impl Tally {
         }
         let counts = self.counts;
         let closed = self.closed;
-        let lengths = self.lengths;
+        let spans = self.spans;
         let opened = self.opened;
         let count = arrays::count_at(counts, opened);
+        let span = span_at(spans, opened);
         if checks::lacks_open(flag, role, opened) {
             return Permit::Denied(Denial::NoneOpen);
         }
@@ -69,8 +73,11 @@ impl Tally {
         if checks::closes_empty(role, count) {
             return Permit::Denied(Denial::NoEntries);
         }
-        if checks::closes_too_long(role, length_at(lengths, opened)) {
+        if checks::closes_too_long(role, seconds_of(span)) {
             return Permit::Denied(Denial::TooLong);
+        }
+        if checks::closes_too_many(role, span.most) {
+            return Permit::Denied(Denial::TooMany);
         }
         checks::permits_entry(flag, role, self.used(), closed, opened, self.running)
     }
@@ -113,19 +120,18 @@ impl Tally {
     {
         let counts = self.counts;
         let closed = self.closed;
-        let lengths = self.lengths;
+        let spans = self.spans;
         let opened = self.opened;
         if !self.takes() {
             return self;
         }
         let count = arrays::count_at(counts, opened) + 1;
-        let length = length_at(lengths, opened);
-        let length = added(length, span_in(role, opened, closed, lengths));
+        let span = joined_with(span_at(spans, opened), beat_of(role), opened, closed, spans);
         let counts = arrays::with_count(counts, opened, count);
-        let lengths = arrays::with_length(lengths, opened, length);
+        let spans = arrays::with_span(spans, opened, span);
         Tally {
             counts,
-            lengths,
+            spans,
             ..self
         }
     }
@@ -134,12 +140,12 @@ impl Tally {
         ensures { λ r. ⌜ r ≡ executedBy self (Role.Open m) ⌝ }
     {
         let counts = self.counts;
-        let lengths = self.lengths;
+        let spans = self.spans;
         let counts = arrays::with_count(counts, m, 0);
-        let lengths = arrays::with_length(lengths, m, 0);
+        let spans = arrays::with_span(spans, m, no_span());
         Tally {
             counts,
-            lengths,
+            spans,
             opened: m,
             ..self
         }
@@ -160,8 +166,8 @@ impl Tally {
     fn starting(self, m: u8) -> Tally
         ensures { λ r. ⌜ r ≡ executedBy self (Role.Run m) ⌝ }
     {
-        let lengths = self.lengths;
-        let left = length_at(lengths, m);
+        let spans = self.spans;
+        let left = seconds_of(span_at(spans, m));
         Tally {
             running: m,
             left,

@@ -3,7 +3,7 @@
 use bench::Bench;
 use bench::Status;
 use frame::Frame;
-use store::Handed;
+use store::Group;
 use text::Translated;
 use wire::Command;
 
@@ -31,11 +31,23 @@ fn with_command(sum: u64, command: Command) -> u64 {
     }
 }
 
-fn with_handed(sum: u64, handed: Handed) -> u64 {
-    match handed {
-        Handed::Nothing => mixed(sum, 0),
-        Handed::Over(kind) => with_command(sum, Command { flag: true, kind }),
+// An entry by its two arguments, as a command with its flag.
+fn with_entry(sum: u64, first: u32, second: u32) -> u64 {
+    mixed(mixed(mixed(sum, first as u64), second as u64), 1)
+}
+
+// How many entries a second handed over, and each of them by its words.
+fn with_group(sum: u64, group: Group) -> u64 {
+    let words = group.words;
+    let size = store::group_size(group.count);
+    let mut sum = mixed(sum, size as u64);
+    let mut i: usize = 0;
+    while i < size {
+        let at = i * 3;
+        sum = with_entry(sum, words[at + 1], words[at + 2]);
+        i += 1;
     }
+    sum
 }
 
 fn with_frame(sum: u64, f: Frame) -> u64 {
@@ -290,8 +302,8 @@ fn passing(bench: Bench, sum: u64, seconds: u32) -> Later {
     while i < seconds {
         let passed = bench.second();
         bench = passed.bench;
-        let handed = passed.handed;
-        sum = with_handed(sum, handed);
+        let group = passed.group;
+        sum = with_group(sum, group);
         i += 1;
     }
     Later { bench, sum }

@@ -140,7 +140,7 @@ pub record Reaches (s : List ℕ) : Type 0 where
 
 pub reaches : (s : List ℕ) → reachCode s ≡ 0 → Reaches s
 reaches s e =
-    let passed = due-none 0 (reachChecks s) refl e in
+    let passed = due-none (reachChecks s) refl e in
     let bounds = neither (ltb (lengthOf s) 2) (ltb 32 (lengthOf s)) (passed .1 .0) in
     record {
       head = ltb-false (length s) 8 (passed .0);
@@ -161,7 +161,7 @@ ends false false false rest c h = absurd (let z : _≡_ {A = ℕ} 0 1 = cc in om
 pub goes : (s : List ℕ) → reachCode s ≡ 0 → readCode s ≡ firstOf (wholeChecks s (lengthOf s))
 unfolding readCode
 goes s e =
-    let passed = due-none 0 (reachChecks s) refl e in
+    let passed = due-none (reachChecks s) refl e in
     simp (passed .0, passed .1 .0, passed .1 .1 .0)
 
 -- What the code holds of the reach, for the reader and for the span.

@@ -2,20 +2,21 @@
 -- none is.
 use Prim.Native.Nat.{ℕ, zero, suc, _<_}
 use mathlib.Core.Path.{_≡_, refl, sym, _∙_}
-use mathlib.Core.Logic.{_↔_}
-use mathlib.Core.List.{List, [], _∷_}
-use mathlib.Core.Bool.{Bool, true, false, cond, _&&_}
+use mathlib.Core.Logic.{_↔_, _≢_}
+use mathlib.Core.List.{List, [], _∷_, _++_}
+use mathlib.Core.Bool.{Bool, true, false, cond, not, _&&_}
 use native.Mathlib.Omega.{arith}
 use lib.ListN.{length, getD, take}
-use lib.Dec.{ltb}
-use borrow.Author.Tests.{ltb-true}
+use lib.Dec.{eqb}
+use borrow.Author.Tests.{eqb-false, not-true}
+use Rattle.words.proofs.Tests.{both}
 use Rattle.words.specs.BigEndian.{wordAt}
 use Rattle.wire.specs.declared.table.Found.{Found}
 use Rattle.wire.specs.declared.kinds.Command.{Command}
 use Rattle.wire.specs.Codes.{Check, _when_, firstOf}
 use Rattle.wire.specs.Table.{ruleOf}
 use Rattle.wire.specs.Judge.{argChecks, judgeCode}
-use Rattle.wire.specs.Read.{decodeChecks, opcodeOf, flagOf, lengthOf, thirdWord, readChecks, readCode}
+use Rattle.wire.specs.Read.{reachChecks, sumDiffers, decodeChecks, opcodeOf, flagOf, lengthOf, thirdWord, readChecks, readCode}
 use Rattle.wire.specs.Write.{writeChecks, writeCode}
 
 -- The row at a place of a list of checks; past the end, one that is never due.
@@ -38,10 +39,15 @@ pub record FirstDue (cs : List Check) (n : ℕ) : Type 0 where
   pub first : FirstAt cs place
   pub code : rowAt cs place .code ≡ n
 
--- The codes rise from row to row, from above a number; so they differ, and none is 0.
-abbrev pub rising : ℕ → List Check → Bool
-rising n [] = true
-rising n (c ∷ cs) = ltb n (c .code) && rising (c .code) cs
+-- No row of the list has code n.
+abbrev lacks : ℕ → List Check → Bool
+lacks n [] = true
+lacks n (c ∷ cs) = not (eqb (c .code) n) && lacks n cs
+
+-- The codes differ from row to row, and none is 0.
+abbrev pub apart : List Check → Bool
+apart [] = true
+apart (c ∷ cs) = not (eqb (c .code) 0) && (lacks (c .code) cs && apart cs)
 
 -- Where the row at a place is the first that is due, the code is that row's.
 pub first-at : (cs : List Check) (k : ℕ) → FirstAt cs k → firstOf cs ≡ rowAt cs k .code
@@ -70,52 +76,61 @@ due-first (c ∷ cs) n h e = go (c .due) refl e (due-first cs n h)
           code = later .code;
         }
 
--- A list whose codes rise starts above the number, and goes on rising from there.
-rise : (n : ℕ) (c : Check) (cs : List Check) → rising n (c ∷ cs) ≡ true → (n < c .code) × (rising (c .code) cs ≡ true)
-rise n c cs r = go (ltb n (c .code)) refl r
+-- A list that lacks a code has no row with it, and does not give it, unless it is 0.
+lacks-on : (n : ℕ) (c : Check) (cs : List Check) → lacks n (c ∷ cs) ≡ true → (c .code ≢ n) × (lacks n cs ≡ true)
+lacks-on n c cs h =
+    let parts = both (not (eqb (c .code) n)) (lacks n cs) h in
+    (eqb-false (c .code) n (not-true (eqb (c .code) n) (parts .0)), parts .1)
+
+row-lacked : (n : ℕ) (cs : List Check) (k : ℕ) → lacks n cs ≡ true → k < length cs → rowAt cs k .code ≢ n
+row-lacked n [] k h less = absurd (omega arith)
+row-lacked n (c ∷ cs) zero h less = lacks-on n c cs h .0
+row-lacked n (c ∷ cs) (suc k) h less = row-lacked n cs k (lacks-on n c cs h .1) (omega arith)
+
+code-lacked : (n : ℕ) (cs : List Check) → lacks n cs ≡ true → n ≢ 0 → firstOf cs ≢ n
+code-lacked n [] h some e = some (sym e)
+code-lacked n (c ∷ cs) h some e = go (c .due) (lacks-on n c cs h .0) (code-lacked n cs (lacks-on n c cs h .1) some) e
   where
-    go : (b : Bool) → ltb n (c .code) ≡ b → (b && rising (c .code) cs) ≡ true → (n < c .code) × (rising (c .code) cs ≡ true)
-    go true is more = (ltb-true n (c .code) is, more)
-    go false is more = absurd (let z : _≡_ {A = ℕ} 0 1 = cc in omega arith)
+    go : (b : Bool) → c .code ≢ n → firstOf cs ≢ n → cond b (c .code) (firstOf cs) ≢ n
+    go true own rest = own
+    go false own rest = rest
 
--- So the code of each row is above the number, and so is the code that is given, unless it is 0.
-row-above : (n : ℕ) (cs : List Check) (k : ℕ) → rising n cs ≡ true → k < length cs → n < rowAt cs k .code
-row-above n [] k r h = absurd (omega arith)
-row-above n (c ∷ cs) zero r h = rise n c cs r .0
-row-above n (c ∷ cs) (suc k) r h = omega (arith, rise n c cs r .0, row-above (c .code) cs k (rise n c cs r .1) (omega arith))
+-- What a list whose codes differ says of its first row, and of the rest.
+record Apart (c : Check) (cs : List Check) : Type 0 where
+  some : c .code ≢ 0
+  other : lacks (c .code) cs ≡ true
+  rest : apart cs ≡ true
 
-above : (n : ℕ) (cs : List Check) → rising n cs ≡ true → (firstOf cs ≡ 0 → ⊥) → n < firstOf cs
-above n [] r h = absurd (h refl)
-above n (c ∷ cs) r h = go (c .due) h (above (c .code) cs (rise n c cs r .1))
-  where
-    go : (b : Bool) → (cond b (c .code) (firstOf cs) ≡ 0 → ⊥) → ((firstOf cs ≡ 0 → ⊥) → c .code < firstOf cs) → n < cond b (c .code) (firstOf cs)
-    go true h more = rise n c cs r .0
-    go false h more = omega (arith, rise n c cs r .0, more h)
+apart-on : (c : Check) (cs : List Check) → apart (c ∷ cs) ≡ true → Apart c cs
+apart-on c cs h =
+    let parts = both (not (eqb (c .code) 0)) (lacks (c .code) cs && apart cs) h in
+    let later = both (lacks (c .code) cs) (apart cs) (parts .1) in
+    record { some = eqb-false (c .code) 0 (not-true (eqb (c .code) 0) (parts .0)); other = later .0; rest = later .1 }
 
--- Conversely, in a list whose codes rise: where the code is the one of the row at a place, that row is the first that is due.
-pub at-first : (n : ℕ) (cs : List Check) (k : ℕ) → rising n cs ≡ true → k < length cs → firstOf cs ≡ rowAt cs k .code → FirstAt cs k
-at-first n [] k r h e = absurd (omega arith)
-at-first n (c ∷ cs) zero r h e = go (c .due) refl e
+-- Conversely, in a list whose codes differ: where the code is the one of the row at a place, that row is the first that is due.
+pub at-first : (cs : List Check) (k : ℕ) → apart cs ≡ true → k < length cs → firstOf cs ≡ rowAt cs k .code → FirstAt cs k
+at-first [] k r h e = absurd (omega arith)
+at-first (c ∷ cs) zero r h e = go (c .due) refl e
   where
     go : (b : Bool) → c .due ≡ b → cond b (c .code) (firstOf cs) ≡ c .code → FirstAt (c ∷ cs) zero
     go true is same = record { before = tt; due = is }
     go false is same =
-        let up = rise n c cs r in
-        absurd (omega (arith, up .0, above (c .code) cs (up .1) (λ z. omega (arith, up .0))))
-at-first n (c ∷ cs) (suc k) r h e = go (c .due) refl e (at-first (c .code) cs k (rise n c cs r .1) (omega arith))
+        let on = apart-on c cs r in
+        absurd (code-lacked (c .code) cs (on .other) (on .some) same)
+at-first (c ∷ cs) (suc k) r h e = go (c .due) refl e (at-first cs k (apart-on c cs r .rest) (omega arith))
   where
     go : (b : Bool) → c .due ≡ b → cond b (c .code) (firstOf cs) ≡ rowAt cs k .code
         → (firstOf cs ≡ rowAt cs k .code → FirstAt cs k) → FirstAt (c ∷ cs) (suc k)
-    go true is same more = absurd (omega (arith, row-above (c .code) cs k (rise n c cs r .1) (omega arith)))
+    go true is same more = absurd (row-lacked (c .code) cs k (apart-on c cs r .other) (omega arith) (sym same))
     go false is same more = record { before = (is, more same .before); due = more same .due }
 
--- Conversely, in a list whose codes rise: where the code is 0, no row is due.
-pub due-none : (n : ℕ) (cs : List Check) → rising n cs ≡ true → firstOf cs ≡ 0 → NoneDue cs
-due-none n [] r e = tt
-due-none n (c ∷ cs) r e = go (c .due) refl e (due-none (c .code) cs (rise n c cs r .1))
+-- Conversely, in a list whose codes differ: where the code is 0, no row is due.
+pub due-none : (cs : List Check) → apart cs ≡ true → firstOf cs ≡ 0 → NoneDue cs
+due-none [] r e = tt
+due-none (c ∷ cs) r e = go (c .due) refl e (due-none cs (apart-on c cs r .rest))
   where
     go : (b : Bool) → c .due ≡ b → cond b (c .code) (firstOf cs) ≡ 0 → (firstOf cs ≡ 0 → NoneDue cs) → NoneDue (c ∷ cs)
-    go true is same more = absurd (omega (arith, rise n c cs r .0))
+    go true is same more = absurd (apart-on c cs r .some same)
     go false is same more = (is, more same)
 
 -- What a code says: it is n exactly when a row with code n is the first that is due; the one of row k exactly when row k is; 0 exactly when none is.
@@ -124,12 +139,12 @@ pub record Order (cs : List Check) (code : ℕ) : Type 0 where
   pub placed : (k : ℕ) → k < length cs → (code ≡ rowAt cs k .code) ↔ FirstAt cs k
   pub accepted : (code ≡ 0) ↔ NoneDue cs
 
-pub order : (cs : List Check) → rising 0 cs ≡ true → Order cs (firstOf cs)
+pub order : (cs : List Check) → apart cs ≡ true → Order cs (firstOf cs)
 order cs r =
     record {
       coded = λ n h. (due-first cs n h, λ d. first-at cs (d .place) (d .first) ∙ d .code);
-      placed = λ k h. (at-first 0 cs k r h, first-at cs k);
-      accepted = (due-none 0 cs r, none-due cs);
+      placed = λ k h. (at-first cs k r h, first-at cs k);
+      accepted = (due-none cs r, none-due cs);
     }
 
 -- Reading a command: rows 1 to 10.
@@ -137,7 +152,10 @@ pub read-order : (s : List ℕ) → Order (readChecks s) (readCode s)
 unfolding readCode
 read-order s = order (readChecks s) (go (ruleOf (opcodeOf s)))
   where
-    go : (found : Found) → rising 4 (decodeChecks found (flagOf s) (lengthOf s) (wordAt s 4) (thirdWord s (lengthOf s))) ≡ true
+    later : Found → List Check
+    later found = 4 when sumDiffers s (lengthOf s) ∷ decodeChecks found (flagOf s) (lengthOf s) (wordAt s 4) (thirdWord s (lengthOf s))
+
+    go : (found : Found) → apart (reachChecks s ++ later found) ≡ true
     go (Found.Known form length) = refl
     go Found.Unknown = refl
 

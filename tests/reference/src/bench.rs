@@ -1,15 +1,16 @@
-//! The bench state: judging a command against it (codes 8 to 19), carrying the
+//! The bench state: judging a command against it (codes 8 to 19, 25), carrying the
 //! command out, letting a second pass, and the frame that shows the state.
 
 use std::collections::VecDeque;
 
 use crate::codes::{
-    refuse_if, Refusal, CLOSE_TOO_LONG, CLOSE_WITHOUT_ENTRIES, MACRO_RUNS, NO_ENTRY_FREE,
-    NO_MACRO_OPEN, OPEN_OF_CLOSED, OPEN_WHILE_OPEN, TARGET_NOT_BELOW, TARGET_NOT_CLOSED,
+    refuse_if, Refusal, CLOSE_TOO_FULL, CLOSE_TOO_LONG, CLOSE_WITHOUT_ENTRIES, MACRO_RUNS,
+    NO_ENTRY_FREE, NO_MACRO_OPEN, OPEN_OF_CLOSED, OPEN_WHILE_OPEN, TARGET_NOT_BELOW,
+    TARGET_NOT_CLOSED,
 };
 use crate::command::{Command, Kind};
 use crate::frame::Frame;
-use crate::macros::{Entry, MacroStore, LONGEST_MACRO};
+use crate::macros::{Group, MacroStore, FULLEST_SECOND, LONGEST_MACRO};
 use crate::wire::read_command;
 
 /// A time that never falls.
@@ -25,11 +26,11 @@ pub struct Series {
     pub images: u16,
 }
 
-/// A macro that runs, with the part of its written-out list still to come.
+/// A macro that runs, with those of its seconds still to come.
 #[derive(Clone, Debug, PartialEq, Eq)]
 pub struct Running {
     pub number: usize,
-    pub ahead: VecDeque<Entry>,
+    pub ahead: VecDeque<Group>,
 }
 
 #[derive(Clone, Debug, PartialEq, Eq)]
@@ -98,13 +99,13 @@ impl Default for Bench {
 }
 
 impl Bench {
-    /// Carries out the first command of these bytes (codes 1 to 19).
+    /// Carries out the first command of these bytes (codes 1 to 19, 25).
     pub fn carry_out_bytes(&mut self, bytes: &[u8]) -> Result<(), Refusal> {
         let command = read_command(bytes)?;
         self.carry_out(&command)
     }
 
-    /// Carries out a decoded command (codes 8 to 19).
+    /// Carries out a decoded command (codes 8 to 19, 25).
     pub fn carry_out(&mut self, command: &Command) -> Result<(), Refusal> {
         command.judge()?;
         self.judge_macro_commands(command)?;
@@ -117,21 +118,28 @@ impl Bench {
         Ok(())
     }
 
-    /// Codes 11 to 16.
+    /// Codes 11 to 13, those of CLOSE, and 16.
     fn judge_macro_commands(&self, command: &Command) -> Result<(), Refusal> {
         let opens = command.kind == Kind::Open;
         let closes = command.kind == Kind::Close;
         let number = command.arguments[0] as usize;
         let some_open = self.macros.open.is_some();
-        let entries = self.macros.open_entries();
-        let too_long = closes && self.macros.open_length() > LONGEST_MACRO;
         let free = self.macros.free_entries();
         refuse_if((command.appended || closes) && !some_open, NO_MACRO_OPEN)?;
         refuse_if(opens && some_open, OPEN_WHILE_OPEN)?;
         refuse_if(opens && self.macros.closed[number], OPEN_OF_CLOSED)?;
-        refuse_if(closes && entries == 0, CLOSE_WITHOUT_ENTRIES)?;
-        refuse_if(too_long, CLOSE_TOO_LONG)?;
+        if closes {
+            self.judge_close()?;
+        }
         refuse_if(command.appended && free == 0, NO_ENTRY_FREE)
+    }
+
+    /// Codes 14, 15 and 25.
+    fn judge_close(&self) -> Result<(), Refusal> {
+        let outline = self.macros.open_outline();
+        refuse_if(self.macros.open_entries() == 0, CLOSE_WITHOUT_ENTRIES)?;
+        refuse_if(outline.length() > LONGEST_MACRO, CLOSE_TOO_LONG)?;
+        refuse_if(outline.fullest > FULLEST_SECOND, CLOSE_TOO_FULL)
     }
 
     /// Codes 17 to 19.
@@ -162,7 +170,7 @@ impl Bench {
             Kind::Open => self.macros.start(first as usize),
             Kind::Close => self.macros.close(),
             Kind::Run => self.start_running(first as usize),
-            // Only ever appended, and then written out as entries of nothing.
+            // Only ever appended, and then it ends a second instead.
             Kind::Wait => {}
             Kind::Stop => self.running = None,
             Kind::Clear => self.macros = MacroStore::default(),
@@ -176,21 +184,21 @@ impl Bench {
 
     /// One second; the answer is what was handed over. The series come first,
     /// so that an image asked for in a second is taken one second later.
-    pub fn second(&mut self) -> Entry {
+    pub fn second(&mut self) -> Group {
         self.image.pass_second();
         self.track.pass_second();
         self.hand_over()
     }
 
-    fn hand_over(&mut self) -> Entry {
-        let running = self.running.as_mut()?;
-        let handed = running.ahead.pop_front().flatten();
+    fn hand_over(&mut self) -> Group {
+        let Some(running) = &mut self.running else {
+            return Group::new();
+        };
+        let handed = running.ahead.pop_front().unwrap_or_default();
         if running.ahead.is_empty() {
             self.running = None;
         }
-        if let Some(command) = &handed {
-            self.execute(command);
-        }
+        handed.iter().for_each(|command| self.execute(command));
         handed
     }
 

@@ -10,6 +10,7 @@ pub mod frame;
 pub mod list;
 pub mod macros;
 pub mod numbers;
+pub mod outline;
 pub mod programs;
 pub mod replay;
 pub mod run;

@@ -5,7 +5,7 @@ use crate::bench::Bench;
 use crate::codes::{code_and_parameter, Placed, Refusal};
 use crate::command::{Command, COMMANDS, TABLE};
 use crate::frame::{Frame, FRAME_BYTES};
-use crate::macros::Entry;
+use crate::macros::Group;
 use crate::run::{run_lists, shown, Counts, RECORD_BYTES};
 use crate::text::{assemble, line_shown, list_text};
 use crate::typed::run_typed;
@@ -112,7 +112,7 @@ impl Replay {
     /// Takes one item off the script and answers with its lines.
     pub fn item(&mut self, script: &mut Script) -> Option<String> {
         match script.byte()? {
-            SECOND => Some(second_line(&self.bench.second())),
+            SECOND => Some(second_lines(&self.bench.second())),
             COMMAND => Some(self.command(script.short_part()?)),
             STATUS => Some(self.status()),
             RUN => self.run(script),
@@ -164,8 +164,8 @@ impl Replay {
     }
 
     fn passed(&mut self, seconds: usize) -> String {
-        let handed = (0..seconds).filter(|_| self.bench.second().is_some());
-        format!("passed {}\n", handed.count())
+        let handed = (0..seconds).map(|_| self.bench.second().len());
+        format!("passed {}\n", handed.sum::<usize>())
     }
 
     fn decoded(&mut self, script: &mut Script) -> Option<String> {
@@ -189,15 +189,17 @@ fn written_words(written: &Result<usize, Refusal>, room: &[u8]) -> String {
     }
 }
 
-fn second_line(handed: &Entry) -> String {
-    let Some(command) = handed else {
-        return "second 0 none\n".into();
-    };
-    let mut line = format!("second 0 {}", command.kind.row().name);
-    for argument in command.own_arguments() {
-        line += &format!(" {argument}");
+/// How many entries a second handed over, and a line to each.
+fn second_lines(handed: &Group) -> String {
+    let mut lines = format!("second 0 {}\n", handed.len());
+    for command in handed {
+        lines += &format!("handed 0 {}", command.kind.row().name);
+        for argument in command.own_arguments() {
+            lines += &format!(" {argument}");
+        }
+        lines += "\n";
     }
-    line + "\n"
+    lines
 }
 
 /// The lines of a run, whose first begins with these words.

@@ -70,7 +70,7 @@ fn images_come_in_seconds_1_3_and_5() {
     assert_eq!(send(&mut bench, IMAGE), (0, 0));
     let counts: Vec<u16> = (0..7)
         .map(|_| {
-            assert_eq!(bench.second(), None);
+            assert_eq!(bench.second(), []);
             bench.image.images
         })
         .collect();
@@ -106,7 +106,7 @@ fn open_3_and_an_appended_wait_2() {
     assert_eq!(send(&mut bench, OPEN_3), (0, 0));
     assert_eq!(bench.macros.open, Some(3));
     assert_eq!(send(&mut bench, WAIT_2), (0, 0));
-    assert_eq!(bench.macros.open_length(), 2);
+    assert_eq!(bench.macros.open_outline().length(), 2);
 }
 
 #[test]
@@ -138,21 +138,23 @@ fn two_macros() -> Bench {
 #[test]
 fn a_macro_that_starts_another_twice_is_written_out() {
     let mut bench = two_macros();
-    assert_eq!(bench.macros.written_out(0).len(), 3);
-    assert_eq!(bench.macros.written_out(1).len(), 7);
+    assert_eq!(bench.macros.written_out(0).len(), 2);
+    assert_eq!(bench.macros.written_out(1).len(), 4);
+    take(&mut bench, false, Kind::ImgPwr, 1);
     take(&mut bench, false, Kind::Run, 1);
-    for second in 1..=7 {
-        let handed = bench.second().map(|command| command.kind);
-        let expected = match second {
-            1 | 5 => Some(Kind::TlmFlush),
-            4 => Some(Kind::ImgPwr),
-            _ => None,
+    for second in 1..=4 {
+        let handed: Vec<Kind> = bench.second().iter().map(|it| it.kind).collect();
+        let expected: &[Kind] = match second {
+            1 => &[Kind::TlmFlush],
+            3 => &[Kind::ImgPwr, Kind::TlmFlush],
+            _ => &[],
         };
         assert_eq!(handed, expected, "second {second}");
-        assert_eq!(bench.seconds_left(), 7 - second);
-        assert_eq!(bench.running.is_some(), second < 7);
+        assert_eq!(bench.seconds_left(), 4 - second);
+        assert_eq!(bench.running.is_some(), second < 4);
+        assert_eq!(bench.power, second < 3);
     }
-    assert_eq!(bench.second(), None);
+    assert_eq!((bench.flushes, bench.second()), (2, vec![]));
 }
 
 #[test]

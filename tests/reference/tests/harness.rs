@@ -1,11 +1,15 @@
 //! The comparison's own tools: that its scripts are what they should be, that
 //! it sees differences and codes, and that it makes a script smaller.
 
+use std::collections::BTreeSet;
+
 use reference::comparison::items::{command, fresh, second, status, Item};
 use reference::comparison::rng::Rng;
 use reference::comparison::shrink::shrunk;
 use reference::comparison::tally::{first_difference, grouped, Tally};
 use reference::comparison::{fixed, random};
+use reference::macros::MACROS;
+use reference::outline::Outline;
 use reference::replay::{transcript, Replay, Script, LONGEST_SCRIPT};
 
 #[test]
@@ -31,6 +35,38 @@ fn fills_the_pool(script: &[Item]) -> bool {
         replay.item(&mut Script::new(item));
         replay.bench.macros.free_entries() == 0
     })
+}
+
+#[test]
+fn random_macros_lie_on_both_sides_of_their_limits() {
+    let mut fullest = BTreeSet::new();
+    let mut lengths = BTreeSet::new();
+    for index in 0..10 {
+        for outline in outlines(&random::script(Rng::stream(7, index))) {
+            fullest.insert(outline.fullest);
+            lengths.insert((outline.length(), outline.last > 0));
+        }
+    }
+    assert!([63, 64, 65].iter().all(|count| fullest.contains(count)));
+    assert!(fullest.iter().any(|count| *count > 1000), "{fullest:?}");
+    for length in [599, 600, 601] {
+        let ends = [(length, false), (length, true)];
+        assert!(ends.iter().all(|end| lengths.contains(end)), "{length}");
+    }
+    assert!(lengths.iter().any(|(length, _)| *length > 10_000));
+}
+
+/// The outlines of all macros that a script makes, whether they can be closed or not.
+fn outlines(script: &[Item]) -> Vec<Outline> {
+    let mut replay = Replay::default();
+    let mut all = Vec::new();
+    for item in script {
+        replay.item(&mut Script::new(item));
+        let macros = &replay.bench.macros;
+        all.extend((0..MACROS).map(|number| macros.outline(number)));
+        all.dedup();
+    }
+    all
 }
 
 #[test]
@@ -67,10 +103,10 @@ fn shrinking_keeps_the_items_that_matter() {
 fn codes_are_counted_wherever_a_line_shows_one() {
     let mut tally = Tally::default();
     tally.add("command 5 0\nrecord 0213000000000001\nrun 20 0 0\nread 0 0 24\n");
-    tally.add("frame 0 24\nframe 22\ndecoded 11 0 9\npassed 7\nstatus 27\nsecond 0 none\n");
+    tally.add("frame 0 24\nframe 22\ndecoded 11 0 9\npassed 7\nstatus 27\nsecond 0 0\n");
     tally.add("assembled 30 2 0\nlisted 33 1 0\ntyped 31 1 0 0 0\nline 6162\n");
     let missing = [
-        1, 2, 3, 4, 6, 7, 8, 10, 12, 13, 14, 15, 16, 17, 18, 21, 23, 32,
+        1, 2, 3, 4, 6, 7, 8, 10, 12, 13, 14, 15, 16, 17, 18, 21, 23, 25, 32,
     ];
     assert_eq!(tally.missing(), missing);
     assert_eq!(grouped(1_234_567), "1,234,567");

@@ -18,7 +18,7 @@ fn answer(items: &[Vec<u8>]) -> String {
 fn a_command_a_second_and_a_status() {
     let flush = raw(false, Kind::TlmFlush, [0; 2]);
     let items = [status(), command(&flush), second(), command(&[]), fresh()];
-    let expected = format!("status {FRESH_STATUS}\ncommand 0 0\nsecond 0 none\ncommand 1 0\n");
+    let expected = format!("status {FRESH_STATUS}\ncommand 0 0\nsecond 0 0\ncommand 1 0\n");
     assert_eq!(answer(&items), expected);
 }
 
@@ -28,8 +28,9 @@ fn what_a_macro_hands_over() {
     let items = [
         now(Kind::Open, 4),
         append(Kind::TlmFlush, 0),
-        append(Kind::Wait, 1),
+        append(Kind::Wait, 2),
         command(&goal),
+        append(Kind::ImgPwr, 1),
         now(Kind::Close, 0),
         now(Kind::Run, 4),
         second(),
@@ -39,10 +40,11 @@ fn what_a_macro_hands_over() {
         now(Kind::Run, 4),
         passed(9),
     ];
-    let expected = "command 0 0\n".repeat(6)
-        + "second 0 tlm_flush\nsecond 0 none\n\
+    let expected = "command 0 0\n".repeat(7)
+        + "second 0 1\nhanded 0 tlm_flush\nsecond 0 0\n\
            status 000000010000000100000000000000000000000000000000000104ff00011001\n\
-           second 0 trk_goal 1140834304 2147483648\ncommand 0 0\npassed 2\n";
+           second 0 2\nhanded 0 trk_goal 1140834304 2147483648\nhanded 0 img_pwr 1\n\
+           command 0 0\npassed 3\n";
     assert_eq!(answer(&items), expected);
 }
 
@@ -168,10 +170,7 @@ fn a_line_shown() {
 #[test]
 fn scripts_that_end_badly() {
     assert_eq!(answer(&[]), "");
-    assert_eq!(
-        answer(&[second(), vec![1, 1]]),
-        "second 0 none\nbad script\n"
-    );
+    assert_eq!(answer(&[second(), vec![1, 1]]), "second 0 0\nbad script\n");
     assert_eq!(answer(&[vec![10], second()]), "bad script\n");
     assert_eq!(answer(&[vec![14], second()]), "bad script\n");
     assert_eq!(transcript(&vec![4; 65_536]), "");

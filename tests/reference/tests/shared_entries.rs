@@ -22,8 +22,14 @@ fn append(bench: &mut Bench, kind: Kind, argument: u32) -> u8 {
     code(bench, true, kind, [argument, 0])
 }
 
-/// Appends an entry that tells its macro and its place there.
+/// Each eighth entry is a WAIT, so that no second is too full.
+const EACH: u32 = 8;
+
+/// Appends an entry that tells its macro and its place there, or that WAIT.
 fn append_place(bench: &mut Bench, number: u32, place: u32) -> u8 {
+    if place % EACH == EACH - 1 {
+        return append(bench, Kind::Wait, 1);
+    }
     code(bench, true, Kind::ImgRegion, [number, place])
 }
 
@@ -41,13 +47,22 @@ fn store(bench: &mut Bench, number: u32, count: u32) {
     assert_eq!(execute(bench, Kind::Close, 0), 0);
 }
 
-/// Runs the macro to its end: it must hand over so many entries, in order.
+/// Lets a second pass, which must hand over the entries from this place up to the
+/// next WAIT or the end, in order.
+fn second_hands_over(bench: &mut Bench, number: u32, start: u32, count: u32) {
+    let handed = bench.second().into_iter().map(|it| it.arguments);
+    let end = count.min(start + EACH - 1);
+    let expected = (start..end).map(|place| [number, place]);
+    assert!(handed.eq(expected), "macro {number} from entry {start}");
+}
+
+/// Runs the macro to its end: it must hand over all of so many entries.
 fn hands_over(bench: &mut Bench, number: u32, count: u32) {
     assert_eq!(execute(bench, Kind::Run, number), 0);
-    for place in 0..count {
-        assert_eq!(bench.seconds_left() as u32, count - place);
-        let handed = bench.second().map(|it| (it.kind, it.arguments));
-        assert_eq!(handed, Some((Kind::ImgRegion, [number, place])));
+    for start in (0..count).step_by(EACH as usize) {
+        let left = (count - start).div_ceil(EACH);
+        assert_eq!(bench.seconds_left() as u32, left);
+        second_hands_over(bench, number, start, count);
     }
     assert_eq!(bench.seconds_left(), 0);
 }
@@ -222,13 +237,13 @@ fn a_macro_runs_on_while_others_are_appended_to() {
         store(&mut bench, 4, 60);
         assert_eq!(execute(&mut bench, Kind::Open, number), 0);
         assert_eq!(execute(&mut bench, Kind::Run, 4), 0);
-        for place in 0..60 {
-            assert_eq!(append_place(&mut bench, number, place), 0);
-            let handed = bench.second().map(|it| it.arguments);
-            assert_eq!(handed, Some([4, place]));
+        for step in 0..8 {
+            assert_eq!(append_place(&mut bench, number, step), 0);
+            second_hands_over(&mut bench, 4, EACH * step, 60);
         }
+        assert_eq!(bench.running, None);
         assert_eq!(execute(&mut bench, Kind::Close, 0), 0);
-        hands_over(&mut bench, number, 60);
+        hands_over(&mut bench, number, 8);
     }
 }
 
@@ -250,7 +265,7 @@ fn a_wait_of_3_started_191_times_closes_and_one_of_4_does_not() {
     assert_eq!(execute(&mut bench, Kind::Close, 0), 0);
     assert_eq!(execute(&mut bench, Kind::Run, 7), 0);
     assert_eq!(bench.seconds_left(), 573);
-    (0..573).for_each(|_| assert_eq!(bench.second(), None));
+    (0..573).for_each(|_| assert_eq!(bench.second(), []));
     assert_eq!(bench.running, None);
     let mut bench = starts_of_a_wait(4);
     assert_eq!(execute(&mut bench, Kind::Close, 0), 15);
@@ -272,7 +287,7 @@ fn of_512_appends_in_a_list_192_are_taken() {
 fn kit_and_pupil_share_the_entries_also_where_the_pupil_s_list_is_typed() {
     let mut bench = Bench::default();
     let kit = [bytes(false, Kind::Open, 5), bytes(true, Kind::Wait, 1)].concat();
-    let text = "+tlm_flush\n".repeat(192) + "close\nrun 5\n";
+    let text = "+tlm_flush\n+tlm_flush\n+wait 1\n".repeat(64) + "close\nrun 5\n";
     let commands = commands_typed(text.as_bytes()).expect("every line is good");
     let records = typed_records(&mut bench, &kit, &commands);
     let refused: Vec<u32> = records
@@ -281,6 +296,7 @@ fn kit_and_pupil_share_the_entries_also_where_the_pupil_s_list_is_typed() {
         .map(|record| record.number)
         .collect();
     assert_eq!((refused, counted(&records, PUPIL, 16)), (vec![192], 1));
-    let flushed = (0..192).filter(|_| bench.second().is_some()).count();
-    assert_eq!((flushed, bench.running), (191, None));
+    assert_eq!(bench.seconds_left(), 65);
+    let flushed: usize = (0..65).map(|_| bench.second().len()).sum();
+    assert_eq!((flushed, bench.running), (128, None));
 }

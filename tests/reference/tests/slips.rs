@@ -57,7 +57,7 @@ fn a_time_of_65535_stays() {
     let track = Command::new(false, Kind::ImgTrack, [65534, 1]);
     assert_eq!(bench.carry_out(&image), Ok(()));
     assert_eq!(bench.carry_out(&track), Ok(()));
-    (0..66_000).for_each(|_| assert_eq!(bench.second(), None));
+    (0..66_000).for_each(|_| assert_eq!(bench.second(), []));
     assert_eq!((bench.image.time, bench.image.images), (65535, 464));
     assert_eq!((bench.track.time, bench.track.images), (0, 65534));
 }
@@ -89,8 +89,8 @@ fn a_macro_s_image_is_counted_one_second_later() {
         let command = Command::new(appended, kind, arguments);
         assert_eq!(bench.carry_out_bytes(&sealed(&unsealed(&command))), Ok(()));
     }
-    assert_eq!(bench.second().map(|it| it.kind), Some(Kind::ImgImage));
+    assert_eq!(bench.second().len(), 1);
     assert_eq!(bench.image.images, 0);
-    assert_eq!(bench.second(), None);
+    assert_eq!(bench.second(), []);
     assert_eq!(bench.image.images, 1);
 }

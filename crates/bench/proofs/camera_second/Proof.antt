@@ -7,11 +7,11 @@ use Rattle.bench.proofs.camera_second.Tie as tie
 second-requires : tie.Need-second-requires
 second-requires c κs = search needs
 
-executed-handed-requires : tie.Need-executed-handed-requires
-executed-handed-requires c κs = search needs
+executed-all-requires : tie.Need-executed-all-requires
+executed-all-requires c κs = search needs
 
 returns : tie.Need-returns
 returns c = search (series-first, needs)
 
 pub camera-second-spec : {M : Type 1} → statement M
-camera-second-spec = tie.close (tie.spec second-requires executed-handed-requires returns)
+camera-second-spec = tie.close (tie.spec second-requires executed-all-requires returns)

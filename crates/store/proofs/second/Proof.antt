@@ -7,6 +7,7 @@ use Rattle.store.specs.declared.tally.Survey.{Survey}
 use Rattle.store.specs.Sound.{storeSound}
 use Rattle.store.specs.TallySteps.{tallyOf, storeOf}
 use Rattle.store.specs.SecondSteps.{steppedOf}
+use Rattle.store.proofs.Clear.{sound-clear}
 use Rattle.store.proofs.SoundLaws.{running-due}
 use Rattle.store.proofs.second.Statement.{statement}
 use Rattle.store.proofs.second.Tie as tie
@@ -25,14 +26,25 @@ sound-told c = ap (λ (r : Survey). r .sound) (c .survey .ensures)
 tally-told : (c : tie.After-survey) → c .survey .result .tally ≡ tallyOf (handed-in (c .before))
 tally-told c = ap (λ (r : Survey). r .tally) (c .survey .ensures)
 
+none-requires : tie.Need-none-requires
+none-requires c κs = search needs
+
 step-with-requires : tie.Need-step-with-requires
 step-with-requires c κs = search needs
 
 returns : tie.Need-returns
 unfolding steppedOf
 returns c =
-    let survey = c .before .before .before in
-    rw (c .step-with .ensures, ← sound-told survey, not-true (survey .survey .result .sound) (c .before .if1 .taken))
+    let survey = c .before .before .before .before in
+    rw (
+      c .step-with .ensures,
+      c .before .none .ensures,
+      ← sound-told survey,
+      not-true (survey .survey .result .sound) (c .before .before .if1 .taken),
+    )
+
+none-requires-2 : tie.Need-none-requires-2
+none-requires-2 c κs = search needs
 
 step-with-requires-2 : tie.Need-step-with-requires-2
 step-with-requires-2 c κs = search needs
@@ -40,20 +52,22 @@ step-with-requires-2 c κs = search needs
 returns-2 : tie.Need-returns-2
 unfolding steppedOf
 returns-2 c =
-    let survey = c .before .before .before .before in
+    let survey = c .before .before .before .before .before in
     rw (
       c .step-with2 .ensures,
+      c .before .none2 .ensures,
       ← sound-told survey,
-      not-false (survey .survey .result .sound) (c .before .before .if1 .left),
-      eq-eqb _ 255 (c .before .if2 .taken),
+      not-false (survey .survey .result .sound) (c .before .before .before .if1 .left),
+      eq-eqb _ 255 (c .before .before .if2 .taken),
     )
 
-next-in-requires : tie.Need-next-in-requires
-next-in-requires c κs =
+group-due-requires : tie.Need-group-due-requires
+group-due-requires c κs =
     let survey = c .before .before .before .before .before in
+    let store = handed-in (survey .before) in
     let sound = sym (sound-told survey) ∙ not-false (survey .survey .result .sound) (c .before .before .before .if1 .left) in
     let busy = c .before .before .if2 .left in
-    (search needs, rw (tally-told survey) (running-due (handed-in (survey .before)) _ (search needs) sound busy refl))
+    (search needs, rw (tally-told survey) (running-due store _ (search needs) sound busy refl (sound-clear store (search needs) sound)))
 
 less-requires : tie.Need-less-requires
 less-requires c κs = search needs
@@ -67,15 +81,16 @@ step-with-requires-3 c κs = search needs
 returns-3 : tie.Need-returns-3
 unfolding steppedOf
 returns-3 c =
-    let survey = c .before .before .before .before .before .before .before .before .before in
+    let tests = c .before .before .before .before .before .before in
+    let survey = tests .before .before .before in
     rw (
       c .step-with3 .ensures,
       ← sound-told survey,
-      not-false (survey .survey .result .sound) (c .before .before .before .before .before .before .before .if1 .left),
-      ne-eqb _ 255 (c .before .before .before .before .before .before .if2 .left),
+      not-false (survey .survey .result .sound) (tests .before .if1 .left),
+      ne-eqb _ 255 (tests .if2 .left),
       c .before .still-running .ensures,
       c .before .before .less .ensures,
-      c .before .before .before .next-in .ensures,
+      c .before .before .before .group-due .ensures,
       tally-told survey,
     )
 
@@ -84,11 +99,13 @@ second-spec =
     tie.close
     (tie.spec
     survey-requires
+    none-requires
     step-with-requires
     returns
+    none-requires-2
     step-with-requires-2
     returns-2
-    next-in-requires
+    group-due-requires
     less-requires
     still-running-requires
     step-with-requires-3

@@ -16,8 +16,8 @@ loop-holds c = search needs
 second-requires : tie.Need-second-requires Inv-loop μ-loop
 second-requires c κs = search needs
 
-with-handed-requires : tie.Need-with-handed-requires Inv-loop μ-loop
-with-handed-requires c κs = search needs
+with-group-requires : tie.Need-with-group-requires Inv-loop μ-loop
+with-group-requires c κs = search needs
 
 add-i : tie.Need-add-i Inv-loop μ-loop
 add-i c = search needs
@@ -39,7 +39,7 @@ passing-spec =
     μ-loop
     loop-holds
     second-requires
-    with-handed-requires
+    with-group-requires
     add-i
     loop-less
     loop-again

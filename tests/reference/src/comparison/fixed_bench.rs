@@ -129,46 +129,50 @@ fn defined(number: u32, entries: Vec<Item>) -> Vec<Item> {
     items
 }
 
-/// Each macro starts the one below, with an entry of its own on either side.
+/// Each macro starts the one below, with an entry of its own on either side and a
+/// WAIT before the latter.
 fn chain(length: usize) -> Vec<Item> {
-    let wait = length as u32 - 2 * TOP - 1;
+    let wait = length as u32 - TOP - 1;
     let mut items = defined(0, vec![append(Kind::TlmFlush, 0), append(Kind::Wait, wait)]);
     for number in 1..=TOP {
         let before = append(Kind::TrkAlg, number % 3);
         let after = append(Kind::ImgPwr, number % 2);
-        let entries = vec![before, append(Kind::Run, number - 1), after];
+        let below = append(Kind::Run, number - 1);
+        let entries = vec![before, below, append(Kind::Wait, 1), after];
         items.extend(defined(number, entries));
     }
     items
 }
 
-/// Each macro starts the one below twice; the last fills up the length.
+/// Each macro starts the one below twice, whose last entry and first one then share
+/// a second; the last macro fills up the length.
 fn doubling(length: usize) -> Vec<Item> {
-    let seed = (0..4).map(|mode| append(Kind::FlushAuto, mode % 2));
-    let mut items = defined(0, seed.collect());
+    let seed = (0..3).map(|mode| append(Kind::FlushAuto, mode % 2));
+    let mut seed: Vec<Item> = seed.collect();
+    seed.insert(1, append(Kind::Wait, 2));
+    let mut items = defined(0, seed);
     for number in 1..=TOP {
         let mut entries = vec![append(Kind::Run, number - 1); 2];
         if number == TOP {
-            entries.insert(1, append(Kind::Wait, length as u32 - (4 << TOP)));
+            entries.insert(1, append(Kind::Wait, length as u32 - (2 << TOP) - 1));
         }
         items.extend(defined(number, entries));
     }
     items
 }
 
-/// The last macro starts all others, several times over.
+/// The last macro starts all others, several times over; each ends with a WAIT.
 fn fan(length: usize) -> Vec<Item> {
     let mut items = Vec::new();
-    let mut total = 0;
     for number in 0..TOP {
         let mut entries = vec![append(Kind::TlmFlush, 0); number as usize + 1];
-        entries.push(append(Kind::TrkLoop, number % 2));
-        total += entries.len();
+        entries.extend([append(Kind::TrkLoop, number % 2), append(Kind::Wait, 1)]);
         items.extend(defined(number, entries));
     }
     let runs = (0..TOP).chain(0..TOP).chain(0..TOP);
     let mut entries: Vec<Item> = runs.map(|number| append(Kind::Run, number)).collect();
-    entries.insert(9, append(Kind::Wait, (length - 3 * total) as u32));
+    let waited = entries.len();
+    entries.insert(9, append(Kind::Wait, (length - waited) as u32));
     items.extend(defined(TOP, entries));
     items
 }
@@ -188,7 +192,9 @@ fn nest(mut items: Vec<Item>) -> Vec<Item> {
     for step in 0..=LONGEST_MACRO + 1 {
         items.push(second());
         items.push(between[step % between.len()].clone());
-        items.push(status());
+        if step % 3 == 0 {
+            items.push(status());
+        }
     }
     items.extend([now(Kind::Run, TOP), passed(598), status()]);
     items.extend(watched(4));
@@ -271,8 +277,8 @@ fn run_and_open(number: u32) -> Vec<Item> {
 /// a macro open.
 fn stop_and_clear() -> Vec<Item> {
     let mut items = vec![now(Kind::Stop, 0), status(), now(Kind::Clear, 0), status()];
-    let entries = (0..5).map(|x| append(Kind::ImgRegion, x)).collect();
-    items.extend(defined(1, entries));
+    let entries = (0..5).flat_map(|x| [append(Kind::ImgRegion, x), append(Kind::Wait, 1)]);
+    items.extend(defined(1, entries.collect()));
     for seconds in 0..=6 {
         items.extend([now(Kind::Run, 1), status()]);
         items.extend(watched(seconds));
@@ -293,7 +299,10 @@ fn stop_and_clear() -> Vec<Item> {
 fn busy_bench() -> Vec<Item> {
     let acting = || TABLE[..Kind::Open as usize].iter().map(|row| row.kind);
     let mut items = vec![now(Kind::Open, 0)];
-    items.extend(acting().map(|kind| command(&raw(true, kind, [1, 1]))));
+    items.extend(acting().flat_map(|kind| {
+        let entry = command(&raw(true, kind, [1, 1]));
+        [entry, append(Kind::Wait, 1)]
+    }));
     items.extend([
         append(Kind::Wait, 3),
         now(Kind::Close, 0),

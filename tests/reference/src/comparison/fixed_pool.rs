@@ -13,6 +13,8 @@ use crate::run::LONGEST_LIST;
 const REPORT_ROOM: u16 = 8192;
 /// The long macro beside seven macros of one entry each.
 const ALL_BUT_SEVEN: usize = SHARED_ENTRIES + 1 - MACROS;
+/// One entry in so many is a WAIT, so that no second is too full.
+const EACH: usize = 16;
 
 const RISING: [u32; MACROS] = [0, 1, 2, 3, 4, 5, 6, 7];
 const FALLING: [u32; MACROS] = [7, 6, 5, 4, 3, 2, 1, 0];
@@ -34,7 +36,8 @@ pub fn episodes() -> Vec<Vec<Item>> {
         episodes.extend([one_list(count), one_text(count)]);
     }
     episodes.extend(ORDERS.map(|(order, long)| one_long(&order, long)));
-    episodes.extend([whole_list(), cleared()]);
+    episodes.extend([whole_list(&flushes(1)), whole_list(&spaced_flushes())]);
+    episodes.push(cleared());
     episodes.extend([
         many_runs(Kind::Wait, 3),
         many_runs(Kind::Wait, 4),
@@ -52,8 +55,11 @@ fn close() -> Vec<u8> {
     raw(false, Kind::Close, [0; 2])
 }
 
-/// An entry that tells its macro and its place there.
+/// An entry that tells its macro and its place there, or the WAIT of that place.
 fn entry(number: u32, place: u32) -> Vec<u8> {
+    if place as usize % EACH == EACH - 1 {
+        return raw(true, Kind::Wait, [1, 0]);
+    }
     raw(true, Kind::ImgRegion, [number, place])
 }
 
@@ -75,7 +81,7 @@ fn listed(list: &[u8]) -> Vec<Item> {
 /// Runs a macro of so many entries to its end, and looks at each.
 fn handed_over(number: u32, count: usize) -> Vec<Item> {
     let mut items = vec![now(Kind::Run, number)];
-    items.extend(vec![second(); count]);
+    items.extend(vec![second(); count.div_ceil(EACH)]);
     items.push(status());
     items
 }
@@ -98,7 +104,7 @@ fn one_by_one() -> Vec<Item> {
         items.extend([command(&raw(false, row.kind, [1, 2])), status()]);
     }
     items.extend([now(Kind::Close, 0), status(), now(Kind::Run, TOP)]);
-    items.extend(watched(SHARED_ENTRIES));
+    items.extend(watched(SHARED_ENTRIES / EACH + 1));
     items
 }
 
@@ -142,7 +148,7 @@ fn two_senders() -> Vec<Item> {
     let kit = [open(2), entries(2, SHARED_ENTRIES - 2)].concat();
     let pupil = [entries(5, 4), close(), raw(false, Kind::Run, [2, 0])].concat();
     let mut items = vec![run(REPORT_ROOM, &kit, &pupil), status()];
-    items.extend([passed(SHARED_ENTRIES as u16 - 3), status()]);
+    items.extend([passed((SHARED_ENTRIES / EACH) as u16 - 2), status()]);
     items.extend(watched(4));
     items
 }
@@ -154,12 +160,15 @@ fn one_list(count: usize) -> Vec<Item> {
 }
 
 fn one_text(count: usize) -> Vec<Item> {
-    let places = (0..count).map(|place| format!("+img_region 0 {place}\n"));
+    let places = (0..count).map(|place| match place % EACH == EACH - 1 {
+        true => "+wait 1\n".into(),
+        false => format!("+img_region 0 {place}\n"),
+    });
     let text = format!("open 0\n{}close\nrun 0\n", places.collect::<String>());
     vec![
         typed(REPORT_ROOM, &[], text.as_bytes()),
         status(),
-        passed(SHARED_ENTRIES as u16 - 2),
+        passed((SHARED_ENTRIES / EACH) as u16 - 1),
         second(),
         status(),
         second(),
@@ -183,13 +192,21 @@ fn one_long(order: &[u32; MACROS], long: u32) -> Vec<Item> {
     items
 }
 
-/// Appends for as long as a list may be.
-fn whole_list() -> Vec<Item> {
-    let flush = raw(true, Kind::TlmFlush, [0; 2]);
-    let appends = flush.repeat(LONGEST_LIST / flush.len());
+fn flushes(count: usize) -> Vec<u8> {
+    raw(true, Kind::TlmFlush, [0; 2]).repeat(count)
+}
+
+/// Flushes with a WAIT behind them.
+fn spaced_flushes() -> Vec<u8> {
+    [flushes(EACH - 1), raw(true, Kind::Wait, [1, 0])].concat()
+}
+
+/// The same appends for as long as a list may be.
+fn whole_list(appends: &[u8]) -> Vec<Item> {
+    let appends = appends.repeat(LONGEST_LIST / appends.len());
     let mut items = vec![run(REPORT_ROOM, &open(5), &appends), status()];
     items.extend([now(Kind::Close, 0), now(Kind::Run, 5)]);
-    items.extend([passed(SHARED_ENTRIES as u16 + 8), status()]);
+    items.extend([passed(SHARED_ENTRIES as u16), status()]);
     items
 }
 
@@ -210,7 +227,8 @@ fn cleared() -> Vec<Item> {
 }
 
 /// A macro of one entry, started by another as often as entries are free, and
-/// once more; 191 times 3 seconds are not too long, 191 times 4 are.
+/// once more; 191 times 3 seconds are not too long, 191 times 4 are, and 191
+/// flushes are too many for a second.
 fn many_runs(kind: Kind, argument: u32) -> Vec<Item> {
     let small = [open(0), raw(true, kind, [argument, 0]), close()].concat();
     let starts = raw(true, Kind::Run, [0; 2]).repeat(SHARED_ENTRIES);
@@ -243,15 +261,17 @@ fn below_closed_ones() -> Vec<Item> {
 
 /// A macro runs while its own entries, or others, have to make room.
 fn beside_a_running_one() -> Vec<Item> {
-    let mut items = listed(&[stored(4, 30), stored(7, 5)].concat());
-    for number in [1, 6, 0] {
+    let runs = raw(true, Kind::Run, [2, 0]).repeat(15);
+    let long = [open(4), runs, close()].concat();
+    let mut items = listed(&[stored(2, EACH), long, stored(7, 5)].concat());
+    for number in [3, 6, 0] {
         items.extend([now(Kind::Run, 4), now(Kind::Open, number)]);
-        for place in 0..30 {
+        for place in 0..15 {
             items.extend([second(), status(), command(&entry(number, place))]);
         }
         items.push(now(Kind::Close, 0));
         items.extend(handed_over(7, 5));
-        items.extend(handed_over(number, 30));
+        items.extend(handed_over(number, 15));
     }
     items
 }

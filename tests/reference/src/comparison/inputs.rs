@@ -32,8 +32,12 @@ pub fn texts(rng: &mut Rng, random: usize) -> Vec<Vec<u8>> {
     ];
     let mut all: Vec<Vec<u8>> = small.iter().map(|text| text.as_bytes().to_vec()).collect();
     all.extend([512, 513].map(|times| b"tlm_flush\n".repeat(times)));
-    let appends = "+tlm_flush\n".repeat(SHARED_ENTRIES + 1);
-    all.push(format!("open 7\n{appends}close\nrun 7\n").into_bytes());
+    let groups = [(SHARED_ENTRIES + 1, 1), (2, SHARED_ENTRIES / 2)];
+    for (each, times) in groups.into_iter().chain([(64, 1), (64, 2), (65, 1)]) {
+        let group = "+tlm_flush\n".repeat(each);
+        let appends = [group, "+wait 1\n".into()].concat().repeat(times);
+        all.push(format!("open 7\n{appends}close\nrun 7\n").into_bytes());
+    }
     all.extend([0, 1].map(|more| lengthened(b"stop", LONGEST_TEXT + more)));
     all.push(vec![b'\n'; LONGEST_TEXT]);
     all.extend((0..random).map(|_| {

@@ -4,6 +4,7 @@
 pub mod damage;
 pub mod fixed;
 pub mod fixed_bench;
+pub mod fixed_groups;
 pub mod fixed_lines;
 pub mod fixed_pool;
 pub mod fixed_text;
@@ -13,6 +14,7 @@ pub mod items;
 pub mod options;
 pub mod program;
 pub mod random;
+mod random_groups;
 mod random_pool;
 mod random_text;
 pub mod rng;

@@ -12,7 +12,8 @@ use crate::programs::Streams;
 
 /// Far above what a script needs, even under an emulator on a busy machine.
 const TIME_LIMIT: Duration = Duration::from_secs(300);
-/// The longest honest transcript is below 5 MB: 65,536 status lines.
+/// Far above the transcript of any script sent here, which is below 5 MB. (Seconds
+/// that are all full could come to more, but no script has so many of them.)
 const OUTPUT_LIMIT: u64 = 16 << 20;
 
 /// A command line, split on blanks: no quoting, no shell.

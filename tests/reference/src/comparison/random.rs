@@ -1,5 +1,6 @@
 //! Random scripts. A shadow bench follows what is sent, so that a command can
-//! be aimed: at a macro that is closed, at the 600 limit, at the last free entry.
+//! be aimed: at a macro that is closed, at the 600 limit, at the last free entry,
+//! at the fullest second.
 
 use super::damage::{acting_kind, any_kind, arguments, damaged, random_list};
 use super::fixed::SCRIPT_AIM;
@@ -14,6 +15,10 @@ use crate::macros::{LONGEST_MACRO, MACROS};
 use crate::replay::{Replay, Script, DECODED_ROOM, LONGEST_SCRIPT};
 use crate::run::{KIT, LONGEST_LIST, PUPIL, SMALLEST_REPORT_ROOM};
 use crate::wire::MOST_WORDS;
+
+/// Of a macro that runs so many entries are shown one by one; what is handed over
+/// behind them is counted.
+const MOST_SHOWN: usize = 150;
 
 pub(super) struct Maker {
     pub(super) rng: Rng,
@@ -59,7 +64,7 @@ impl Maker {
     }
 
     fn episode(&mut self) {
-        match self.rng.below(136) {
+        match self.rng.below(159) {
             0..=29 => self.macros_episode(),
             30..=49 => self.chatter_episode(),
             50..=59 => self.decoded_episode(),
@@ -72,6 +77,8 @@ impl Maker {
             115..=124 => self.typed_episode(),
             125..=128 => self.line_episode(),
             129..=134 => self.pool_episode(),
+            135..=154 => self.groups_episode(),
+            155..=157 => self.many_runs_episode(),
             _ => self.long_text_episode(),
         }
     }
@@ -115,9 +122,9 @@ impl Maker {
         }
         // Aimed at one below the limit, the limit, or one past it.
         let aim = LONGEST_MACRO + self.rng.below(3) - 1;
-        let length = self.shadow.bench.macros.open_length();
-        if tight && self.rng.percent(60) && length < aim {
-            self.push(append(Kind::Wait, (aim - length) as u32));
+        let waited = self.shadow.bench.macros.open_outline().waited;
+        if tight && self.rng.percent(60) && waited < aim {
+            self.push(append(Kind::Wait, (aim - waited) as u32));
         }
     }
 
@@ -144,14 +151,25 @@ impl Maker {
         self.rng.pick(&known) as u32
     }
 
-    /// Runs a macro, mostly to its end, with commands between the seconds.
     pub(super) fn run_a_macro(&mut self) {
         let number = self.likely_number();
+        self.run_macro(number);
+    }
+
+    /// Runs a macro, mostly to its end, with commands between the seconds.
+    pub(super) fn run_macro(&mut self, number: u32) {
         self.push_all([now(Kind::Run, number), status()]);
         let left = self.shadow.bench.seconds_left();
         let stepped = self.rng.below(left.min(60) + 4);
+        let mut shown = 0;
         for _ in 0..stepped {
-            self.push(second());
+            let (empty, group) = self.coming();
+            shown += group;
+            let seconds = match shown {
+                0..=MOST_SHOWN if empty < 9 => second(),
+                _ => passed(self.rng.within(1, empty.max(1)) as u16),
+            };
+            self.push(seconds);
             if self.rng.percent(25) {
                 self.push(status());
             }
@@ -164,6 +182,16 @@ impl Maker {
             let seconds = left.saturating_sub(2) + self.rng.below(4);
             self.push_all([passed(seconds as u16), status(), second(), status()]);
         }
+    }
+
+    /// How many seconds to come are empty, and how many entries the next one has.
+    fn coming(&self) -> (usize, usize) {
+        let Some(running) = &self.shadow.bench.running else {
+            return (0, 0);
+        };
+        let ahead = &running.ahead;
+        let empty = ahead.iter().take_while(|group| group.is_empty());
+        (empty.count(), ahead.front().map_or(0, Vec::len))
     }
 
     /// One or two commands from outside, most of them whole.

@@ -61,14 +61,14 @@ impl Maker {
         commands
     }
 
-    /// An entry that only a full pool refuses, and mostly one of a single second,
-    /// so that a macro of many can be closed.
+    /// An entry that only a full pool refuses, with WAITs often enough for a macro of
+    /// many to be closed.
     fn pool_entry(&mut self, number: u32) -> Command {
         let closed = self.shadow.bench.macros.closed;
         let below: Vec<u32> = (0..number).filter(|it| closed[*it as usize]).collect();
         match self.rng.below(40) {
             0 if !below.is_empty() => Command::new(true, Kind::Run, [self.rng.pick(&below), 0]),
-            1 | 2 => Command::new(true, Kind::Wait, [self.rng.within(1, 4) as u32, 0]),
+            1..=4 => Command::new(true, Kind::Wait, [self.rng.within(1, 4) as u32, 0]),
             _ => {
                 let kind = acting_kind(&mut self.rng);
                 Command::new(true, kind, arguments(&mut self.rng, kind, 0))
@@ -76,7 +76,8 @@ impl Maker {
         }
     }
 
-    fn send(&mut self, commands: &[Command]) {
+    /// By single commands, decoded ones, a run or a typed run.
+    pub(super) fn send(&mut self, commands: &[Command]) {
         match self.rng.below(4) {
             0 => self.send_singly(commands),
             1 => self.push_all(commands.iter().map(|one| {
@@ -129,7 +130,7 @@ impl Maker {
     }
 }
 
-fn bytes_of(command: &Command) -> Vec<u8> {
+pub(super) fn bytes_of(command: &Command) -> Vec<u8> {
     raw(command.appended, command.kind, command.arguments)
 }
 

@@ -1,11 +1,16 @@
 -- `Bench::second` meets its contract: 27 by the rules outside the store or by the store itself, else the series and then what the store hands over.
 use borrow.Author.Needs.{needs}
 use mathlib.Core.Path.{_≡_, sym, ap, _∙_}
+use mathlib.Core.Bool.{true}
 use borrow.Author.Tests.{not-true, not-false}
-use Rattle.store.specs.SecondSteps.{stepOf, steppedOf}
+use Rattle.store.specs.SecondSteps.{steppedOf}
+use Rattle.store.specs.Effects.{groupOf, kindsIn, nextGroup}
+use Rattle.store.proofs.Handed.{handed-kinds}
 use Rattle.bench.specs.declared.Bench.{Bench}
-use Rattle.bench.specs.Status.{rulesHold}
-use Rattle.bench.proofs.Judging.{own-bench, no-rules, no-second, no-step, second-passed}
+use Rattle.bench.specs.Status.{rulesHold, benchSound}
+use Rattle.bench.proofs.Sound.{good-store}
+use Rattle.bench.proofs.Shapes.{Typed, shaped}
+use Rattle.bench.proofs.Judging.{own-bench, no-rules, no-second, no-step, stayed-told, group-passed, second-passed}
 use Rattle.bench.proofs.Bench.second.Statement.{statement}
 use Rattle.bench.proofs.Bench.second.Tie as tie
 
@@ -26,7 +31,7 @@ returns : tie.Need-returns
 returns c =
     let obeys = c .before .before in
     let b = obeys .before .before .args .t1 in
-    c .stayed .ensures ∙ no-second b (no-rules b (rules-told obeys ∙ not-true _ (c .before .if1 .taken)))
+    stayed-told b (c .stayed .result) (c .stayed .ensures) (no-second b (no-rules b (rules-told obeys ∙ not-true _ (c .before .if1 .taken))))
 
 -- Where the rules were found to hold, from the step.
 abbrev rules : tie.After-second → tie.Else1
@@ -36,7 +41,7 @@ second-requires : tie.Need-second-requires
 second-requires c κs = search needs
 
 -- What the store did is told of the store of that bench.
-store-told : (c : tie.After-second) → stepOf (c .second .result) ≡ steppedOf (rules c .before .before .before .args .t1 .store)
+store-told : (c : tie.After-second) → c .second .result ≡ steppedOf (rules c .before .before .before .args .t1 .store)
 store-told c =
     let works = rules c .before .before in
     c .second .ensures ∙ ap (λ (b : Bench). steppedOf (b .store)) (own-bench (works .before .args .t1) _ (works .works .ensures))
@@ -48,21 +53,30 @@ returns-2 : tie.Need-returns-2
 returns-2 c =
     let step = c .before .before .before in
     let obeys = rules step .before in
-    c .stayed2 .ensures
-    ∙ no-step (obeys .before .before .args .t1) (step .second .result) (rules-told obeys ∙ not-false _ (rules step .if1 .left))
-    (store-told step) (not-true _ (c .before .if2 .taken))
+    let b = obeys .before .before .args .t1 in
+    stayed-told b (c .stayed2 .result) (c .stayed2 .ensures)
+    (no-step b (step .second .result) (rules-told obeys ∙ not-false _ (rules step .if1 .left)) (store-told step) (not-true _ (c .before .if2 .taken)))
 
 camera-second-requires : tie.Need-camera-second-requires
 camera-second-requires c κs = search needs
 
+-- The group of a sound bench says the kinds that it was made of.
+says : (b : Bench) → Typed b → benchSound b ≡ true → kindsIn (groupOf (nextGroup (b .store))) ≡ nextGroup (b .store)
+says b typed sound = handed-kinds (b .store) (good-store b (record { sound = sound; shaped = shaped b typed }))
+
 returns-3 : tie.Need-returns-3
 returns-3 c =
     let camera = c .before .before .before .before in
-    let sound = camera .before .before in
+    let sound = camera .before .before .before in
     let step = sound .before .before in
     let obeys = rules step .before in
-    second-passed (obeys .before .before .args .t1) (step .second .result) (rules-told obeys ∙ not-false _ (rules step .if1 .left))
-    (store-told step) (camera .camera-second .result) (not-false _ (sound .if2 .left)) (camera .camera-second .ensures)
+    let start = obeys .before .before in
+    let b = start .args .t1 in
+    let holds = rules-told obeys ∙ not-false _ (rules step .if1 .left) in
+    let on = not-false _ (sound .if2 .left) in (
+      second-passed b (step .second .result) holds (store-told step) on (says b (start .good .0)) (camera .camera-second .result) (camera .camera-second .ensures),
+      group-passed b (step .second .result) holds (store-told step) on (says b (start .good .0)),
+    )
 
 pub second-spec : {M : Type 1} → statement M
 second-spec =

@@ -1,14 +1,14 @@
--- `wait` is safe and ends: no more seconds were busy than have passed, so the count fits, and the seconds that are left fall.
-use Prim.Native.Nat.{_≤_, _-_}
+-- `wait` is safe and ends: no second hands over more than 64 entries, so the count fits, and the seconds that are left fall.
+use Prim.Native.Nat.{_*_, _≤_, _-_}
 use borrow.Author.Needs.{needs}
 use Rattle.replay.proofs.seconds.wait.Statement.{statement}
 use Rattle.replay.proofs.seconds.wait.Tie as tie
 
 abbrev Inv-loop : tie.InvT-loop
-Inv-loop seconds bench₀ busy₀ passed₀ bench busy passed = (passed ≤ seconds) × (busy ≤ passed)
+Inv-loop seconds bench₀ entries₀ passed₀ bench entries passed = (passed ≤ seconds) × (entries ≤ passed * 64)
 
 abbrev μ-loop : tie.MeasureT-loop
-μ-loop seconds bench₀ busy₀ passed₀ bench busy passed = seconds - passed
+μ-loop seconds bench₀ entries₀ passed₀ bench entries passed = seconds - passed
 
 loop-holds : tie.Need-loop-holds Inv-loop μ-loop
 loop-holds c = search needs
@@ -16,8 +16,14 @@ loop-holds c = search needs
 second-requires : tie.Need-second-requires Inv-loop μ-loop
 second-requires c κs = search needs
 
-counted-requires : tie.Need-counted-requires Inv-loop μ-loop
-counted-requires c κs = search needs
+group-size-requires : tie.Need-group-size-requires Inv-loop μ-loop
+group-size-requires c κs = search needs
+
+cast-entries : tie.Need-cast-entries Inv-loop μ-loop
+cast-entries c = search needs
+
+add-entries : tie.Need-add-entries Inv-loop μ-loop
+add-entries c = search needs
 
 add-passed : tie.Need-add-passed Inv-loop μ-loop
 add-passed c = search needs
@@ -39,7 +45,9 @@ wait-spec =
     μ-loop
     loop-holds
     second-requires
-    counted-requires
+    group-size-requires
+    cast-entries
+    add-entries
     add-passed
     loop-less
     loop-again

@@ -1,5 +1,5 @@
 -- `store::pool::entry_at` meets its contract: entry i is what three words say.
-use native.Mathlib.Omega.{arith}
+use mathlib.Core.Path.{refl}
 use borrow.Author.Needs.{needs}
 use Rattle.store.proofs.Entries.{commands-at}
 use Rattle.store.proofs.pool.entry_at.Statement.{statement}
@@ -35,7 +35,7 @@ shared-slice-read-t14 c = search needs
 returns : tie.Need-returns
 returns c =
     let start = c .before .before .before in
-    commands-at (start .args .words .now) (start .args .i) (omega arith)
+    (commands-at (start .args .words .now) (start .args .i) (start .pre .1), refl)
 
 pub entry-at-spec : {M : Type 1} → statement M
 entry-at-spec =

@@ -41,7 +41,7 @@ loop-holds c =
     }
 
 entry-at-requires : tie.Need-entry-at-requires Inv-loop μ-loop
-entry-at-requires c κs = omega arith
+entry-at-requires c κs = (omega arith, omega arith)
 
 -- The entries from i on are the one that is read and the rest.
 read : (c : tie.After-entry-at Inv-loop μ-loop)
@@ -52,7 +52,7 @@ read : (c : tie.After-entry-at Inv-loop μ-loop)
 read c =
     let args = c .before .before .before .before .before .args in
     let at = c .before .before .loop in
-    walk-next (args .words .now) _ (at .i) _ (at .inv .walk) (c .before .loop-test .taken) (c .entry-at .ensures)
+    walk-next (args .words .now) _ (at .i) _ (at .inv .walk) (c .before .loop-test .taken) (c .entry-at .ensures .0)
 
 entry-holds-requires : tie.Need-entry-holds-requires Inv-loop μ-loop
 entry-holds-requires c κs = search needs

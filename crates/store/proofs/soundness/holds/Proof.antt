@@ -1,5 +1,5 @@
--- `store::soundness::holds` meets its contract. The loop's invariant: the macros below m hold. Where all do, the running one's length
--- is at most 600, so the table tells it as it is.
+-- `store::soundness::holds` meets its contract. The loop's invariant: the macros below m hold. Where all do, the running one has at most
+-- 600 seconds, so the table tells them as they are.
 use Prim.Native.Nat.{ℕ, _*_, _-_, _≤_}
 use mathlib.Core.Path.{_≡_, refl, sym, _∙_}
 use mathlib.Core.List.{List}
@@ -11,11 +11,11 @@ use borrow.Author.Needs.{needs}
 use borrow.Author.Tests.{not-true, not-false}
 use Rattle.store.specs.declared.tally.Tally.{Tally}
 use Rattle.store.specs.Pool.{startOf}
-use Rattle.store.specs.LookupSteps.{TellsBelow}
+use Rattle.store.specs.SpanSteps.{TellsBelow}
 use Rattle.store.specs.Sound.{allBelow, macroHolds}
 use Rattle.store.specs.TallySteps.{storeOf}
 use Rattle.store.proofs.Places.{start-next}
-use Rattle.store.proofs.Lengths.{all-told}
+use Rattle.store.proofs.SpanTable.{all-told}
 use Rattle.store.proofs.SoundLaws.{below-start, below-on, macro-told, running-told, sound-full, sound-fails, sound-by-running}
 use Rattle.store.proofs.soundness.holds.Statement.{statement}
 use Rattle.store.proofs.soundness.holds.Tie as tie
@@ -24,17 +24,17 @@ use Rattle.store.proofs.soundness.holds.Tie as tie
 record Held (words : List ℕ) (tally : Tally) (start m : ℕ) : Type 0 where
   whole : length words ≡ 576
   marks : length (tally .closed) ≡ 8
-  tells : TellsBelow (storeOf words tally) 8 (tally .lengths)
+  tells : TellsBelow (storeOf words tally) 8 (tally .spans)
   within : m ≤ 8
   small : start ≤ m * 255
   starts : start ≡ startOf (tally .counts) (tally .closed) (tally .opened) m
   held : allBelow m (macroHolds (storeOf words tally)) ≡ true
 
 abbrev Inv-loop : tie.InvT-loop
-Inv-loop words tally used counts closed lengths start₀ m₀ start m = Held words tally start m
+Inv-loop words tally used counts closed spans start₀ m₀ start m = Held words tally start m
 
 abbrev μ-loop : tie.MeasureT-loop
-μ-loop words tally used counts closed lengths start₀ m₀ start m = 8 - m
+μ-loop words tally used counts closed spans start₀ m₀ start m = 8 - m
 
 returns : tie.Need-returns Inv-loop μ-loop
 returns c =
@@ -50,7 +50,7 @@ loop-holds c =
     record {
       whole = start .pre .0;
       marks = search needs;
-      tells = all-told s (args .tally .lengths) (start .pre .1 .0);
+      tells = all-told s (args .tally .spans) (start .pre .1 .0);
       within = omega arith;
       small = omega arith;
       starts = refl;
@@ -74,8 +74,8 @@ judged c =
     let args = c .before .before .before .before .before .before .before .before .before .args in
     let at = c .before .before .before .loop in
     let size = c .before .size-of in
-    let capped = at .inv .tells (at .m) (omega arith) in
-    macro-told (args .words .now) (args .tally) (at .m) (at .start) (size .result) _ capped (at .inv .starts) (size .ensures .0)
+    let told = at .inv .tells (at .m) (omega arith) in
+    macro-told (args .words .now) (args .tally) (at .m) (at .start) (size .result) _ told (at .inv .starts) (size .ensures .0)
     (c .macro-holds .ensures)
 
 returns-2 : tie.Need-returns-2 Inv-loop μ-loop
@@ -122,7 +122,7 @@ returns-3 c =
     let at = c .before .before .loop in
     let end : at .m ≡ 8 = omega arith in
     let all : allBelow 8 (macroHolds s) ≡ true = rw end at (at .inv .held) in
-    let told = running-told s (args .tally .lengths) _ (at .inv .marks) (at .inv .tells) all (c .running-holds .ensures) in
+    let told = running-told s (args .tally .spans) _ (at .inv .marks) (at .inv .tells) all (c .running-holds .ensures) in
     let fits = c .before .before .before .before .before .before .if1 .left in
     sound-by-running s (args .used) _ (start .pre .1 .1) fits all told
 

@@ -10,8 +10,8 @@ closed-at-requires c κs = search needs
 count-at-requires : tie.Need-count-at-requires
 count-at-requires c κs = search needs
 
-length-at-requires : tie.Need-length-at-requires
-length-at-requires c κs = search needs
+span-at-requires : tie.Need-span-at-requires
+span-at-requires c κs = search needs
 
 closed-fits-requires : tie.Need-closed-fits-requires
 closed-fits-requires c κs = search needs
@@ -26,7 +26,7 @@ returns c =
       ← mark .ensures,
       c .before .before .before .before .before .if1 .taken,
       ← c .before .before .before .before .count-at .ensures,
-      ← c .before .before .before .length-at .ensures,
+      ← c .before .before .before .span-at .ensures,
       ← c .before .before .closed-fits .ensures,
       c .before .if2 .taken,
     )
@@ -38,7 +38,7 @@ returns-2 c =
       ← c .before .before .before .before .before .closed-at .ensures,
       c .before .before .before .before .if1 .taken,
       ← c .before .before .before .count-at .ensures,
-      ← c .before .before .length-at .ensures,
+      ← c .before .before .span-at .ensures,
       ← c .before .closed-fits .ensures,
       c .if2 .left,
     )
@@ -61,7 +61,7 @@ macro-holds-spec =
     (tie.spec
     closed-at-requires
     count-at-requires
-    length-at-requires
+    span-at-requires
     closed-fits-requires
     entries-hold-requires
     returns

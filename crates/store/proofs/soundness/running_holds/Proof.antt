@@ -23,20 +23,24 @@ returns-3 c =
       lt-leb 1 _ (c .if3 .taken),
     )
 
-length-at-requires : tie.Need-length-at-requires
-length-at-requires c κs = search needs
+span-at-requires : tie.Need-span-at-requires
+span-at-requires c κs = search needs
+
+seconds-of-requires : tie.Need-seconds-of-requires
+seconds-of-requires c κs = search needs
 
 returns-4 : tie.Need-returns-4
 returns-4 c =
     rw (
-      ne-eqb _ 255 (c .before .before .before .before .if1 .left),
-      ← c .before .before .before .closed-at .ensures,
-      not-false (c .before .before .before .closed-at .result) (c .before .before .if2 .left),
-      le-leb 1 _ (c .before .if3 .left),
-      ← c .length-at .ensures,
+      ne-eqb _ 255 (c .before .before .before .before .before .if1 .left),
+      ← c .before .before .before .before .closed-at .ensures,
+      not-false (c .before .before .before .before .closed-at .result) (c .before .before .before .if2 .left),
+      le-leb 1 _ (c .before .before .if3 .left),
+      ← c .before .span-at .ensures,
+      ← c .seconds-of .ensures,
     )
 
 pub running-holds-spec : {M : Type 1} → statement M
 running-holds-spec =
     tie.close
-    (tie.spec returns closed-at-requires returns-2 returns-3 length-at-requires returns-4)
+    (tie.spec returns closed-at-requires returns-2 returns-3 span-at-requires seconds-of-requires returns-4)

@@ -1,4 +1,4 @@
--- `store::tally::Tally::appended` meets its contract: one count and one length are written, and an open macro has no more entries than are in use,
+-- `store::tally::Tally::appended` meets its contract: one count and one span are written, and an open macro has no more entries than are in use,
 -- so that the count fits.
 use Prim.Native.Nat.{_<_}
 use mathlib.Core.Path.{_≡_, sym, _∙_}
@@ -35,20 +35,20 @@ add-count c =
     let taken = c .before .before .takes in
     omega (arith, count-free self (taken .result) (taken .ensures) (not-false (taken .result) (c .before .if1 .left)))
 
-length-at-requires : tie.Need-length-at-requires
-length-at-requires c κs = search needs
+span-at-requires : tie.Need-span-at-requires
+span-at-requires c κs = search needs
 
-span-in-requires : tie.Need-span-in-requires
-span-in-requires c κs = search needs
+beat-of-requires : tie.Need-beat-of-requires
+beat-of-requires c κs = search needs
 
-added-requires : tie.Need-added-requires
-added-requires c κs = search needs
+joined-with-requires : tie.Need-joined-with-requires
+joined-with-requires c κs = search needs
 
 with-count-requires : tie.Need-with-count-requires
 with-count-requires c κs = search needs
 
-with-length-requires : tie.Need-with-length-requires
-with-length-requires c κs = search needs
+with-span-requires : tie.Need-with-span-requires
+with-span-requires c κs = search needs
 
 returns-2 : tie.Need-returns-2
 returns-2 c =
@@ -56,11 +56,11 @@ returns-2 c =
     rw (
       ← taken .ensures,
       not-false (taken .result) (c .before .before .before .before .before .before .before .if1 .left),
-      c .before .with-length .ensures,
+      c .before .with-span .ensures,
       c .before .before .with-count .ensures,
-      c .before .before .before .added .ensures,
-      c .before .before .before .before .span-in .ensures,
-      c .before .before .before .before .before .length-at .ensures,
+      c .before .before .before .joined-with .ensures,
+      c .before .before .before .before .beat-of .ensures,
+      c .before .before .before .before .before .span-at .ensures,
       c .before .before .before .before .before .before .count-at .ensures,
     )
 
@@ -72,9 +72,9 @@ appended-spec =
     returns
     count-at-requires
     add-count
-    length-at-requires
-    span-in-requires
-    added-requires
+    span-at-requires
+    beat-of-requires
+    joined-with-requires
     with-count-requires
-    with-length-requires
+    with-span-requires
     returns-2)

@@ -6,32 +6,34 @@ use lib.ListN.{drop}
 use borrow.Author.Needs.{needs}
 use Rattle.wire.specs.Codes.{firstOf}
 use Rattle.store.specs.Checks.{rowsFor}
-use Rattle.store.specs.TallySteps.{usedBy, openLength, tallyCode}
+use Rattle.store.specs.SpanSteps.{lengthOf}
+use Rattle.store.specs.TallySteps.{usedBy, tallyCode}
 use Rattle.store.proofs.Laws.{passed-by}
 use Rattle.store.proofs.tally.Tally.permits.Statement.{statement}
 use Rattle.store.proofs.tally.Tally.permits.Tie as tie
 
 -- What the role was, and the start, from where the rows begin.
-abbrev asked : tie.After-count-at → tie.After-role-of
-asked c = c .before .before .before .before .before .before
+abbrev asked : tie.After-span-at → tie.After-role-of
+asked c = c .before .before .before .before .before .before .before
 
-abbrev entry : tie.After-count-at → tie.Start
+abbrev entry : tie.After-span-at → tie.Start
 entry c = asked c .before
 
 -- The code is that of the first row that holds past the first n.
-abbrev From : ℕ → tie.After-count-at → Type 0
+abbrev From : ℕ → tie.After-span-at → Type 0
 From n c =
-    let args = entry c .args in
+    let flag = entry c .args .command .flag in
     let role = asked c .role-of .result in
-    let self = args .self in
-    tallyCode self (args .command)
+    let self = entry c .args .self in
+    let span = c .span-at .result in
+    tallyCode self (entry c .args .command)
     ≡ firstOf
     (drop n
-    (rowsFor (args .command .flag) role (self .opened) (self .closed) (c .count-at .result) (openLength self) (usedBy self) (self .running)))
+    (rowsFor flag role (self .opened) (self .closed) (c .before .count-at .result) (lengthOf span) (span .most) (usedBy self) (self .running)))
 
-from-start : (c : tie.After-count-at) → From 0 c
+from-start : (c : tie.After-span-at) → From 0 c
 unfolding tallyCode
-from-start c = rw (← asked c .role-of .ensures, ← c .count-at .ensures)
+from-start c = rw (← asked c .role-of .ensures, ← c .before .count-at .ensures, ← c .span-at .ensures)
 
 past-11 : (c : tie.Else2) → From 1 (c .before .before)
 past-11 c = from-start (c .before .before) ∙ rw (← c .before .lacks-open .ensures, c .if2 .left)
@@ -46,7 +48,10 @@ past-14 : (c : tie.Else5) → From 4 (c .before .before .before .before .before 
 past-14 c = past-13 (c .before .before) ∙ rw (← c .before .closes-empty .ensures, c .if5 .left)
 
 past-15 : (c : tie.Else6) → From 5 (c .before .before .before .before .before .before .before .before .before .before .before)
-past-15 c = past-14 (c .before .before .before) ∙ rw (← c .before .before .length-at .ensures, ← c .before .closes-too-long .ensures, c .if6 .left)
+past-15 c = past-14 (c .before .before .before) ∙ rw (← c .before .before .seconds-of .ensures, ← c .before .closes-too-long .ensures, c .if6 .left)
+
+past-25 : (c : tie.Else7) → From 6 (c .before .before .before .before .before .before .before .before .before .before .before .before .before)
+past-25 c = past-15 (c .before .before) ∙ rw (← c .before .closes-too-many .ensures, c .if7 .left)
 
 role-of-requires : tie.Need-role-of-requires
 role-of-requires c κs = search needs
@@ -64,6 +69,9 @@ returns c =
 
 count-at-requires : tie.Need-count-at-requires
 count-at-requires c κs = search needs
+
+span-at-requires : tie.Need-span-at-requires
+span-at-requires c κs = search needs
 
 lacks-open-requires : tie.Need-lacks-open-requires
 lacks-open-requires c κs = search needs
@@ -89,14 +97,21 @@ closes-empty-requires c κs = search needs
 returns-5 : tie.Need-returns-5
 returns-5 c = sym (past-13 (c .before .before) ∙ rw (← c .before .closes-empty .ensures, c .if5 .taken))
 
-length-at-requires : tie.Need-length-at-requires
-length-at-requires c κs = search needs
+seconds-of-requires : tie.Need-seconds-of-requires
+seconds-of-requires c κs = search needs
 
 closes-too-long-requires : tie.Need-closes-too-long-requires
 closes-too-long-requires c κs = search needs
 
 returns-6 : tie.Need-returns-6
-returns-6 c = sym (past-14 (c .before .before .before) ∙ rw (← c .before .before .length-at .ensures, ← c .before .closes-too-long .ensures, c .if6 .taken))
+returns-6 c =
+    sym (past-14 (c .before .before .before) ∙ rw (← c .before .before .seconds-of .ensures, ← c .before .closes-too-long .ensures, c .if6 .taken))
+
+closes-too-many-requires : tie.Need-closes-too-many-requires
+closes-too-many-requires c κs = search needs
+
+returns-7 : tie.Need-returns-7
+returns-7 c = sym (past-15 (c .before .before) ∙ rw (← c .before .closes-too-many .ensures, c .if7 .taken))
 
 used-requires : tie.Need-used-requires
 used-requires c κs = search needs
@@ -104,8 +119,8 @@ used-requires c κs = search needs
 permits-entry-requires : tie.Need-permits-entry-requires
 permits-entry-requires c κs = search needs
 
-returns-7 : tie.Need-returns-7
-returns-7 c = c .permits-entry .ensures ∙ rw (c .before .used .ensures) (sym (past-15 (c .before .before)))
+returns-8 : tie.Need-returns-8
+returns-8 c = c .permits-entry .ensures ∙ rw (c .before .used .ensures) (sym (past-25 (c .before .before)))
 
 pub permits-spec : {M : Type 1} → statement M
 permits-spec =
@@ -115,6 +130,7 @@ permits-spec =
     passes-by-requires
     returns
     count-at-requires
+    span-at-requires
     lacks-open-requires
     returns-2
     opens-another-requires
@@ -123,9 +139,11 @@ permits-spec =
     returns-4
     closes-empty-requires
     returns-5
-    length-at-requires
+    seconds-of-requires
     closes-too-long-requires
     returns-6
+    closes-too-many-requires
+    returns-7
     used-requires
     permits-entry-requires
-    returns-7)
+    returns-8)
