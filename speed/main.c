@@ -55,11 +55,11 @@ static void append(struct list *l, unsigned opcode, bool flag, unsigned n, uint3
     l->size += put_command(l->bytes + l->size, opcode, flag, n, one, two);
 }
 
-/* The nine plain commands in turn, with changing arguments. */
+/* The nine plain commands in turn, with changing arguments. The power is only ever put on, so that no picture is refused. */
 static void append_plain(struct list *l, unsigned i, bool flag)
 {
     switch (i % 9) {
-    case 0: append(l, 0x0114, flag, 3, (uint32_t)(i / 9 % 2) << 24, 0); break;
+    case 0: append(l, 0x0114, flag, 3, 1u << 24, 0); break;
     case 1: append(l, 0x0117, flag, 3, (i * 7 % 1024) << 16 | i * 13 % 1024, 0); break;
     case 2: append(l, 0x0118, flag, 3, (i * 11) << 16 | (i % 50 + 1), 0); break;
     case 3: append(l, 0x0148, flag, 3, (uint32_t)(i / 9 % 3) << 24, 0); break;
@@ -106,12 +106,16 @@ static void deep_list(struct list *l)
     append(l, 0x7f03, false, 3, 7u << 24, 0);
 }
 
-/* A macro of 64 entries and a second to wait, run 24 times by a macro that is run 25 times by the one that is started. */
+/* A macro of 64 entries and a second to wait, run 24 times by a macro that is run 25 times by the one that is started. One of its power commands puts
+   the power off until the last: of its fourteen images and tracks, the last of each get 26, and what those before them set stays. */
 static void full_list(struct list *l)
 {
     l->size = 0;
     append(l, 0x7f01, false, 3, 0, 0);
-    for (unsigned i = 0; i < 64; i++) append_plain(l, i, true);
+    for (unsigned i = 0; i < 64; i++) {
+        if (i == 54) append(l, 0x0114, true, 3, 0, 0);
+        else append_plain(l, i, true);
+    }
     append(l, 0x7f04, true, 3, 1u << 16, 0);
     append(l, 0x7f02, false, 2, 0, 0);
     for (unsigned m = 1; m < 3; m++) {

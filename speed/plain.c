@@ -1,6 +1,7 @@
 /* The bench of 01-scope.md in plain C, written from that page: the state is one struct that is passed by pointer and changed in place.
    It does the same jobs as crates/timing and folds their results in the same way. Typed lists are assembled and listed by the rules of request Q-1;
-   the macros share one pool of entries by those of request Q-9, and a second hands over a group of them by those of request Q-2. */
+   the macros share one pool of entries by those of request Q-9, a second hands over a group of them by those of request Q-2, and no picture is asked
+   for with the power off by those of request Q-3. */
 #include "plain.h"
 #include <stdbool.h>
 #include <string.h>
@@ -414,9 +415,10 @@ static void measure(const struct bench *b, unsigned n, struct span *spans)
     }
 }
 
-/* What a second hands over. */
+/* What a second hands over, and the code of each entry. */
 struct group {
     struct command entries[GROUP];
+    uint8_t codes[GROUP];
     unsigned count;
 };
 
@@ -507,9 +509,16 @@ static void execute(struct bench *b, const struct command *c)
     }
 }
 
-/* Codes 11 to 15, 25, 16 to 19. */
+/* Does this command ask for pictures with the power off? With a time of 0 it asks for none. */
+static bool dark(const struct bench *b, const struct command *c)
+{
+    return !b->power && (c->kind == IMG_IMAGE || c->kind == IMG_TRACK) && c->first > 0;
+}
+
+/* Codes 26, 11 to 15, 25, 16 to 19. */
 static uint8_t denied(const struct bench *b, const struct command *c)
 {
+    if (!c->flag && dark(b, c)) return 26;
     if ((c->flag || c->kind == CLOSE) && b->opened == NONE) return 11;
     if (c->kind == OPEN && b->opened != NONE) return 12;
     if (c->kind == OPEN && b->closed[c->mode]) return 13;
@@ -591,7 +600,7 @@ static void series_second(struct series *s)
     if (s->time != FOR_EVER) s->time--;
 }
 
-/* 27, else a second passes; *handed is what the running macro handed over. */
+/* 27, else a second passes; *handed is what the running macro handed over. An entry that is dark when its turn comes gets 26 and has no effect. */
 static uint8_t second(struct bench *b, struct group *handed)
 {
     handed->count = 0;
@@ -604,7 +613,11 @@ static uint8_t second(struct bench *b, struct group *handed)
     gather(b, b->running, &passed, spans, handed);
     b->left--;
     if (b->left == 0) b->running = NONE;
-    for (unsigned i = 0; i < handed->count; i++) execute(b, &handed->entries[i]);
+    for (unsigned i = 0; i < handed->count; i++) {
+        const struct command *c = &handed->entries[i];
+        handed->codes[i] = dark(b, c) ? 26 : 0;
+        if (handed->codes[i] == 0) execute(b, c);
+    }
     return 0;
 }
 
@@ -872,7 +885,7 @@ static uint64_t with_command(uint64_t sum, const struct command *c)
 static uint64_t with_group(uint64_t sum, const struct group *g)
 {
     sum = mixed(sum, g->count);
-    for (unsigned i = 0; i < g->count; i++) sum = with_command(sum, &g->entries[i]);
+    for (unsigned i = 0; i < g->count; i++) sum = mixed(with_command(sum, &g->entries[i]), g->codes[i]);
     return sum;
 }
 

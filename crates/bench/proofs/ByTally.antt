@@ -1,4 +1,4 @@
--- On a sound bench, what is decided by the tally of its macros is what carrying out says; and the tally stays true of the bench.
+-- On a sound bench, what is decided by its power and the tally of its macros is what carrying out says; and the tally stays true of the bench.
 use Prim.Native.Nat.{ℕ}
 use mathlib.Core.Path.{_≡_, refl, sym, ap, _∙_, subst}
 use mathlib.Core.List.{List, _++_}
@@ -13,23 +13,29 @@ use Rattle.wire.specs.Read.{answerFor, readChecks, said}
 use Rattle.wire.proofs.FirstOf.{Coded, first-append}
 use Rattle.store.specs.declared.Store.{Store}
 use Rattle.store.specs.declared.tally.Tally.{Tally}
-use Rattle.store.specs.Checks.{permitCode, storeChecks}
-use Rattle.store.specs.TallySteps.{tallyChecks, tallyCode, Tallied}
+use Rattle.store.specs.Checks.{permitCode}
+use Rattle.store.specs.TallySteps.{tallyCode, Tallied}
 use Rattle.store.proofs.Tallies.{tallied-code, tallied-effect, tallied-after}
 use Rattle.bench.specs.declared.Bench.{Bench}
-use Rattle.bench.specs.Carry.{cameraAfter, commandChecks, outcomeFor, carryOut, bytesChecks, taken, carryOutBytes}
-use Rattle.bench.specs.Steps.{decidedBy, decidedIn, tallyBy, carriedBy}
+use Rattle.bench.specs.Carry.{row26, cameraAfter, stateChecks, commandChecks, outcomeFor, carryOut, bytesChecks, taken, carryOutBytes}
+use Rattle.bench.specs.Steps.{behindChecks, decidedBy, decidedIn, tallyBy, carriedBy}
 use Rattle.bench.proofs.Outcomes.{judge-coded, read-coded, judge-then, carry-code, sound-bytes}
 use Rattle.bench.proofs.Sound.{GoodBench, Accepted, good-store, judge-accepted, read-accepted}
 
 module _ (b : Bench) (t : Tally) (good : GoodBench b) (is : Tallied (b .store) t) where
-  -- The rows of the tally behind others tell the code that the store's rows tell there.
-  same-code : (c : Command) (rows : List Check) → Coded rows → firstOf (rows ++ tallyChecks t c) ≡ firstOf (rows ++ storeChecks (b .store) c)
+  abbrev power : Bool
+  power = b .camera .power
+
+  -- The rows of power and tally behind others tell the code that those of the bench tell there.
+  same-behind : (c : Command) → firstOf (behindChecks power t c) ≡ firstOf (stateChecks b c)
   unfolding tallyCode permitCode
+  same-behind c = ap (λ n. cond (row26 power (c .flag) (c .kind)) 26 n) (tallied-code (b .store) t is c)
+
+  same-code : (c : Command) (rows : List Check) → Coded rows → firstOf (rows ++ behindChecks power t c) ≡ firstOf (rows ++ stateChecks b c)
   same-code c rows coded =
-      first-append rows (tallyChecks t c) coded
-      ∙ ap (λ n. cond (eqb (firstOf rows) 0) n (firstOf rows)) (tallied-code (b .store) t is c)
-      ∙ sym (first-append rows (storeChecks (b .store) c) coded)
+      first-append rows (behindChecks power t c) coded
+      ∙ ap (λ n. cond (eqb (firstOf rows) 0) n (firstOf rows)) (same-behind c)
+      ∙ sym (first-append rows (stateChecks b c) coded)
 
   -- Where code 0 says that a command is accepted, the answer with a code leads to the outcome with that code,
   module _ (c : Command) (code : ℕ) (accepted : code ≡ 0 → Accepted b c) where
@@ -58,7 +64,7 @@ module _ (b : Bench) (t : Tally) (good : GoodBench b) (is : Tallied (b .store) t
         go false e = rw e is
 
   -- A decoded command,
-  pub carried-by : (c : Command) → carriedBy b t (decidedBy t c) ≡ carryOut b c
+  pub carried-by : (c : Command) → carriedBy b t (decidedBy power t c) ≡ carryOut b c
   unfolding decidedBy carryOut
   carried-by c =
       ap (λ n. carriedBy b t (answerFor n c)) (same-code c (argChecks c) (judge-coded c))
@@ -66,17 +72,17 @@ module _ (b : Bench) (t : Tally) (good : GoodBench b) (is : Tallied (b .store) t
       ∙ ap (λ n. outcomeFor n b c) (judge-then b c ∙ sym (carry-code b c (good .sound)))
 
   -- the command at the front of some bytes,
-  pub taken-by : (s : List ℕ) → carriedBy b t (decidedIn t s) ≡ taken b s
+  pub taken-by : (s : List ℕ) → carriedBy b t (decidedIn power t s) ≡ taken b s
   unfolding decidedIn taken
   taken-by s =
       ap (λ n. carriedBy b t (answerFor n (said s))) (same-code (said s) (readChecks s) (read-coded s))
       ∙ carried-for (said s) (firstOf (bytesChecks b s)) (read-accepted b s)
 
-  pub carried-bytes-by : (s : List ℕ) → carriedBy b t (decidedIn t s) ≡ carryOutBytes b s
+  pub carried-bytes-by : (s : List ℕ) → carriedBy b t (decidedIn power t s) ≡ carryOutBytes b s
   carried-bytes-by s = taken-by s ∙ sound-bytes b s (good .sound)
 
   -- after which the tally is true of the bench again.
-  pub taken-tallied : (s : List ℕ) → Tallied (taken b s .bench .store) (tallyBy t (decidedIn t s .taken))
+  pub taken-tallied : (s : List ℕ) → Tallied (taken b s .bench .store) (tallyBy t (decidedIn power t s .taken))
   unfolding decidedIn taken
   taken-tallied s =
       subst (λ n. Tallied (taken b s .bench .store) (tallyBy t (answerFor n (said s) .taken)))

@@ -15,10 +15,10 @@ use Rattle.wire.specs.Judge.{firstBad, firstBadIn, argChecks, judgeCode}
 use Rattle.wire.proofs.Order.{due-none}
 use Rattle.frame.proofs.Laws.{region-within, mode-within}
 use Rattle.camera.specs.declared.Camera.{Camera}
-use Rattle.camera.specs.Camera.{isOn, cameraWith, freshCamera, executedOf, cameraSecond}
+use Rattle.camera.specs.Camera.{isOn, cameraWith, freshCamera, executedOf, cameraSecond, dark}
 use Rattle.camera.proofs.Images.{GoodSeries, started-good, series-second}
 use Rattle.store.proofs.Handed.{All, Plain}
-use Rattle.bench.specs.Second.{executedAll}
+use Rattle.bench.specs.Second.{handedTo, executedAll}
 
 pub record GoodCamera (c : Camera) : Type 0 where
   pub image : GoodSeries (c .image)
@@ -123,7 +123,14 @@ executed-good c good flag kind h = go kind (allowed-range (record { flag = flag;
     go Kind.Stop e = good
     go Kind.Clear e = good
 
--- So is what a second hands over.
+-- So is what a second hands over; in the dark nothing is set.
+handed-one : (c : Camera) → GoodCamera c → (kind : Kind) → Plain kind → GoodCamera (handedTo c kind)
+handed-one c good kind plain = go (dark (c .power) kind)
+  where
+    go : (none : Bool) → GoodCamera (cond none c (executedOf c kind))
+    go true = good
+    go false = executed-good c good true kind (plain .allowed)
+
 pub handed-good : (c : Camera) → GoodCamera c → (ks : List Kind) → All Plain ks → GoodCamera (executedAll c ks)
 handed-good c good [] h = good
-handed-good c good (k ∷ ks) h = handed-good (executedOf c k) (executed-good c good true k (h .0 .allowed)) ks (h .1)
+handed-good c good (k ∷ ks) h = handed-good (handedTo c k) (handed-one c good k (h .0)) ks (h .1)

@@ -116,6 +116,16 @@ abbrev holding : List ℕ → List ℕ → ℕ → Bench
 holding words sizes opened =
     record { camera = freshCamera; store = storeWith (words ++ replicate (576 - length words) 0) sizes (replicate 8 false) opened 255 0 }
 
+-- Power on, and the camera that it leaves; image, 5 s, every 2 s.
+abbrev power-on : List ℕ
+power-on = 0x01140003 ∷ 0x01000000 ∷ 0x00140003 ∷ []
+
+abbrev lit : Camera
+lit = withModes freshCamera true false false 0
+
+abbrev image : List ℕ
+image = 0x01500003 ∷ 0x00050002 ∷ 0x01550001 ∷ []
+
 -- OPEN 3.
 abbrev open3 : List ℕ
 open3 = 0x7f010003 ∷ 0x03000000 ∷ 0x7c010003 ∷ []
@@ -152,13 +162,14 @@ cases =
     command [] (0x015a0002 ∷ 0x015a0002 ∷ []) false Kind.TlmFlush 0 (showing (withFlushes freshCamera 1))
     ∷ command [] (0x015a8002 ∷ 0x015a8002 ∷ []) true Kind.TlmFlush 11 freshBench
     -- 01140003 01000000 00140003: power on.
-    ∷ command [] (0x01140003 ∷ 0x01000000 ∷ 0x00140003 ∷ []) false (Kind.ImgPwr 1) 0 (showing (withModes freshCamera true false false 0))
+    ∷ command [] power-on false (Kind.ImgPwr 1) 0 (showing lit)
     -- 01170003 02000100 03170103: region 512, 256.
     ∷ command [] (0x01170003 ∷ 0x02000100 ∷ 0x03170103 ∷ []) false (Kind.ImgRegion 512 256) 0 (showing (withRegion freshCamera 512 256))
-    -- 01500003 00050002 01550001: image, 5 s, every 2 s. Images come in seconds 1, 3 and 5.
-    ∷ command [] (0x01500003 ∷ 0x00050002 ∷ 0x01550001 ∷ []) false (Kind.ImgImage 5 2) 0
-    (showing (withSeries freshCamera (seriesWith 5 2 1 0) freshSeries))
-    ∷ counts ((0x01500003 ∷ 0x00050002 ∷ 0x01550001 ∷ []) ∷ []) (1 ∷ 1 ∷ 2 ∷ 2 ∷ 3 ∷ 3 ∷ 3 ∷ [])
+    -- 01500003 00050002 01550001: image, 5 s, every 2 s. Images come in seconds 1, 3 and 5. ("01's image case now has power on": 02, Q-3.)
+    ∷ command (power-on ∷ []) image false (Kind.ImgImage 5 2) 0 (showing (withSeries lit (seriesWith 5 2 1 0) freshSeries))
+    ∷ counts (power-on ∷ image ∷ []) (1 ∷ 1 ∷ 2 ∷ 2 ∷ 3 ∷ 3 ∷ 3 ∷ [])
+    -- Q-3: the same image on a fresh bench, whose power is off.
+    ∷ command [] image false (Kind.ImgImage 5 2) 26 freshBench
     -- 01500003 00050000 01550003: code 8, parameter 2.
     ∷ misread (0x01500003 ∷ 0x00050000 ∷ 0x01550003 ∷ []) 8 2
     -- 01530004 43ffc000 00000000 42acc004: goal 511.5, 0.
@@ -210,6 +221,7 @@ cases-hold =
     also (refl, refl, refl)
     also (refl, refl, refl)
     also refl
+    also (refl, refl, refl)
     also (refl, refl)
     also (refl, refl, refl)
     also (refl, refl, refl)

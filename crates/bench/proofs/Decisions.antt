@@ -1,8 +1,8 @@
--- What becomes of a command, step by step as the tally is asked: each part that passes leaves the rows behind it, and a refusal takes no command.
+-- What becomes of a command, step by step as the power and the tally are asked: each part that passes leaves the rows behind it, and a refusal takes no command.
 use Prim.Native.Nat.{ℕ}
 use mathlib.Core.Path.{_≡_, refl, sym, ap, _∙_}
 use mathlib.Core.List.{List, [], _∷_, _++_}
-use mathlib.Core.Bool.{false, cond}
+use mathlib.Core.Bool.{Bool, true, false, cond}
 use lib.Dec.{eqb}
 use Rattle.wire.specs.declared.kinds.Command.{Command}
 use Rattle.wire.specs.declared.judging.Refusal.{Refusal}
@@ -17,8 +17,9 @@ use Rattle.store.specs.declared.checks.Denial.{Denial}
 use Rattle.store.specs.declared.checks.Permit.{Permit}
 use Rattle.store.specs.declared.tally.Tally.{Tally}
 use Rattle.store.specs.Checks.{codeOf, toldPermit}
-use Rattle.store.specs.TallySteps.{tallyChecks, tallyCode}
-use Rattle.bench.specs.Steps.{permittedBy, decidedBy, decidedIn}
+use Rattle.store.specs.TallySteps.{tallyCode}
+use Rattle.bench.specs.Carry.{row26}
+use Rattle.bench.specs.Steps.{behindChecks, permittedBy, decidedBy, decidedIn}
 use Rattle.bench.proofs.Outcomes.{judge-coded, read-coded}
 
 -- What a refusal says: its code and parameter, and no command.
@@ -43,57 +44,68 @@ denial-none c Denial.NotBelow = refl
 denial-none c Denial.NotClosed = refl
 denial-none c Denial.Running = refl
 
--- The store's rows: denied, or granted.
-pub denied : (t : Tally) (c : Command) (d : Denial) → toldPermit (Permit.Denied d) ≡ tallyCode t c
-    → none (toldWith (codeOf d) 0) ≡ permittedBy t c
-unfolding permittedBy
-denied t c d e = denial-none c d ∙ ap (λ n. answerFor n c) e
+-- Row 26 and the store's: in the dark, denied, or granted.
+module _ (power : Bool) (t : Tally) (c : Command) where
+  pub in-dark : row26 power (c .flag) (c .kind) ≡ true → none (toldWith 26 0) ≡ permittedBy power t c
+  unfolding permittedBy
+  in-dark e = rw e
 
-pub granted : (t : Tally) (c : Command) → toldPermit Permit.Granted ≡ tallyCode t c
-    → answerOf (Reading.Taken c) ≡ permittedBy t c
-unfolding permittedBy
-granted t c e = ap (λ n. answerFor n c) e
+  module _ (lit : row26 power (c .flag) (c .kind) ≡ false) where
+    by-tally : firstOf (behindChecks power t c) ≡ tallyCode t c
+    unfolding tallyCode
+    by-tally = rw lit
 
--- The rows of the tally speak where those of judging, or of reading, all passed.
-judge-tally : (t : Tally) (c : Command) → firstOf (argChecks c ++ tallyChecks t c) ≡ cond (eqb (judgeCode c) 0) (tallyCode t c) (judgeCode c)
-unfolding judgeCode tallyCode
-judge-tally t c = first-append (argChecks c) (tallyChecks t c) (judge-coded c)
+    pub denied : (d : Denial) → toldPermit (Permit.Denied d) ≡ tallyCode t c → none (toldWith (codeOf d) 0) ≡ permittedBy power t c
+    unfolding permittedBy
+    denied d e = denial-none c d ∙ ap (λ n. answerFor n c) (e ∙ sym by-tally)
 
-read-tally : (t : Tally) (s : List ℕ)
-    → firstOf (readChecks s ++ tallyChecks t (said s)) ≡ cond (eqb (readCode s) 0) (tallyCode t (said s)) (readCode s)
-unfolding readCode tallyCode
-read-tally t s = first-append (readChecks s) (tallyChecks t (said s)) (read-coded s)
+    pub granted : toldPermit Permit.Granted ≡ tallyCode t c → answerOf (Reading.Taken c) ≡ permittedBy power t c
+    unfolding permittedBy
+    granted e = ap (λ n. answerFor n c) (e ∙ sym by-tally)
 
--- A decoded command: refused by 8 to 10, or what the store's rows say.
-pub judged-refused : (t : Tally) (c : Command) (r : Refusal) → toldOf r ≡ judged c → none (toldOf r) ≡ decidedBy t c
-unfolding decidedBy
-judged-refused t c r e =
-    let other : eqb (judgeCode c) 0 ≡ false = rw (ap (λ (t : Told). t .code) e) at (refusal-code r) in
-    let code : firstOf (argChecks c ++ tallyChecks t c) ≡ judgeCode c = rw (judge-tally t c, other) in
-    misread c (judgeCode c) r e ∙ ap (λ n. answerFor n c) (sym code)
+module _ (power : Bool) (t : Tally) where
+  abbrev behind : Command → ℕ
+  behind c = firstOf (behindChecks power t c)
 
-pub judged-passed : (t : Tally) (c : Command) → toldWith 0 0 ≡ judged c → permittedBy t c ≡ decidedBy t c
-unfolding decidedBy permittedBy
-judged-passed t c e =
-    let zero : judgeCode c ≡ 0 = sym (ap (λ (t : Told). t .code) e) in
-    let code : firstOf (argChecks c ++ tallyChecks t c) ≡ tallyCode t c = rw (judge-tally t c, zero) in
-    ap (λ n. answerFor n c) (sym code)
+  -- Those rows speak where the rows of judging, or of reading, all passed.
+  judge-first : (c : Command) → firstOf (argChecks c ++ behindChecks power t c) ≡ cond (eqb (judgeCode c) 0) (behind c) (judgeCode c)
+  unfolding judgeCode
+  judge-first c = first-append (argChecks c) (behindChecks power t c) (judge-coded c)
 
--- The command at the front of some bytes: refused by 1 to 10, or what the store's rows say of the command that was read.
-pub read-refused : (t : Tally) (s : List ℕ) (r : Refusal) → answerOf (Reading.Refused r) ≡ readOf s → none (toldOf r) ≡ decidedIn t s
-unfolding decidedIn readOf
-read-refused t s r e =
-    let told : toldOf r ≡ toldWith (readCode s) (parOf (readCode s) (firstBadIn (said s))) = ap (λ (a : Answer). a .told) e in
-    let other : eqb (readCode s) 0 ≡ false = rw (ap (λ (t : Told). t .code) told) at (refusal-code r) in
-    let code : firstOf (readChecks s ++ tallyChecks t (said s)) ≡ readCode s = rw (read-tally t s, other) in
-    misread (said s) (readCode s) r told ∙ ap (λ n. answerFor n (said s)) (sym code)
+  read-first : (s : List ℕ) → firstOf (readChecks s ++ behindChecks power t (said s)) ≡ cond (eqb (readCode s) 0) (behind (said s)) (readCode s)
+  unfolding readCode
+  read-first s = first-append (readChecks s) (behindChecks power t (said s)) (read-coded s)
 
-pub read-passed : (t : Tally) (s : List ℕ) (c : Command) → answerOf (Reading.Taken c) ≡ readOf s → permittedBy t c ≡ decidedIn t s
-unfolding decidedIn readOf permittedBy
-read-passed t s c e =
-    let zero : readCode s ≡ 0 = sym (ap (λ (a : Answer). a .told .code) e) in
-    let both : c ∷ [] ≡ cond (eqb (readCode s) 0) (said s ∷ []) [] = ap (λ (a : Answer). a .taken) e in
-    let one : c ∷ [] ≡ said s ∷ [] = rw zero at both in
-    let same : c ≡ said s = cc in
-    let code : firstOf (readChecks s ++ tallyChecks t (said s)) ≡ tallyCode t (said s) = rw (read-tally t s, zero) in
-    ap (permittedBy t) same ∙ ap (λ n. answerFor n (said s)) (sym code)
+  -- A decoded command: refused by 8 to 10, or what the rows behind them say.
+  pub judged-refused : (c : Command) (r : Refusal) → toldOf r ≡ judged c → none (toldOf r) ≡ decidedBy power t c
+  unfolding decidedBy
+  judged-refused c r e =
+      let other : eqb (judgeCode c) 0 ≡ false = rw (ap (λ (t : Told). t .code) e) at (refusal-code r) in
+      let code : firstOf (argChecks c ++ behindChecks power t c) ≡ judgeCode c = rw (judge-first c, other) in
+      misread c (judgeCode c) r e ∙ ap (λ n. answerFor n c) (sym code)
+
+  pub judged-passed : (c : Command) → toldWith 0 0 ≡ judged c → permittedBy power t c ≡ decidedBy power t c
+  unfolding decidedBy permittedBy
+  judged-passed c e =
+      let zero : judgeCode c ≡ 0 = sym (ap (λ (t : Told). t .code) e) in
+      let code : firstOf (argChecks c ++ behindChecks power t c) ≡ behind c = rw (judge-first c, zero) in
+      ap (λ n. answerFor n c) (sym code)
+
+  -- The command at the front of some bytes: refused by 1 to 10, or what those rows say of the command that was read.
+  pub read-refused : (s : List ℕ) (r : Refusal) → answerOf (Reading.Refused r) ≡ readOf s → none (toldOf r) ≡ decidedIn power t s
+  unfolding decidedIn readOf
+  read-refused s r e =
+      let told : toldOf r ≡ toldWith (readCode s) (parOf (readCode s) (firstBadIn (said s))) = ap (λ (a : Answer). a .told) e in
+      let other : eqb (readCode s) 0 ≡ false = rw (ap (λ (t : Told). t .code) told) at (refusal-code r) in
+      let code : firstOf (readChecks s ++ behindChecks power t (said s)) ≡ readCode s = rw (read-first s, other) in
+      misread (said s) (readCode s) r told ∙ ap (λ n. answerFor n (said s)) (sym code)
+
+  pub read-passed : (s : List ℕ) (c : Command) → answerOf (Reading.Taken c) ≡ readOf s → permittedBy power t c ≡ decidedIn power t s
+  unfolding decidedIn readOf permittedBy
+  read-passed s c e =
+      let zero : readCode s ≡ 0 = sym (ap (λ (a : Answer). a .told .code) e) in
+      let both : c ∷ [] ≡ cond (eqb (readCode s) 0) (said s ∷ []) [] = ap (λ (a : Answer). a .taken) e in
+      let one : c ∷ [] ≡ said s ∷ [] = rw zero at both in
+      let same : c ≡ said s = cc in
+      let code : firstOf (readChecks s ++ behindChecks power t (said s)) ≡ behind (said s) = rw (read-first s, zero) in
+      ap (permittedBy power t) same ∙ ap (λ n. answerFor n (said s)) (sym code)

@@ -2,7 +2,7 @@
 -- in src/ name: what `carry_out` answers is `carryOut`, `carry_out_bytes` `carryOutBytes`, `second` `secondAt`, `status` `statusAt`, `free` `freeAt`,
 -- `run` `runOf` with the room `roomAfter`, and `run_typed` `typedOf` with the room `typedRoom` (specs/Carry, Second, Status, Run, Typed). What can
 -- happen to a bench is a list of events: commands, seconds, runs and runs of typed lists (specs/Events). Read the statements here; what they rest on is
--- proved in Rows, Back, Sound, FreeEntries, MacroRun, Report, TypedReport and LineShown, and in the crates below.
+-- proved in Rows, Dark, Back, Sound, FreeEntries, MacroRun, Report, TypedReport and LineShown, and in the crates below.
 use Prim.Native.Nat.{ℕ, _+_, _*_, _-_, _≤_, _<_}
 use mathlib.Core.Path.{_≡_, refl, sym, _∙_}
 use mathlib.Core.Logic.{_↔_, _≢_}
@@ -52,15 +52,18 @@ use Rattle.store.specs.declared.roles.Role.{Role}
 use Rattle.store.specs.Roles.{isRun, isStop}
 use Rattle.store.specs.Pool.{isClosed, freeIn}
 use Rattle.store.specs.WrittenOut.{writtenOut}
+use Rattle.store.specs.Checks.{storeChecks}
 use Rattle.store.proofs.Running.{RunOf, closed-lasts}
 use Rattle.bench.specs.declared.Bench.{Bench}
 use Rattle.bench.specs.Status.{freshBench, statusOf, benchSound, soundCheck, statusAt, freeAt}
-use Rattle.bench.specs.Carry.{Outcome, effectOf, commandChecks, carryCode, carryOut, bytesChecks, taken, carryBytesCode, carryOutBytes}
+use Rattle.bench.specs.Carry.{Outcome, row26, effectOf, commandChecks, carryCode, carryOut}
+use Rattle.bench.specs.Carry.{bytesChecks, taken, carryBytesCode, carryOutBytes}
 use Rattle.bench.specs.Second.{secondAt}
 use Rattle.bench.specs.Run.{kitPart, runChecks, runOf, roomAfter}
 use Rattle.bench.specs.Typed.{typedFindings, typedOf, typedRoom}
 use Rattle.bench.specs.Events.{Event, bytes, second, run, typed, afterOne, after, Reached, secondsIn, takesAny, accepts, acceptsAny}
 use Rattle.bench.proofs.Rows as rows
+use Rattle.bench.proofs.Dark as dark
 use Rattle.bench.proofs.Back.{command-again, frame-again}
 use Rattle.bench.proofs.InTurn.{leftBy, run-left, typed-left}
 use Rattle.bench.proofs.Sound.{GoodBench, good-store, left-good, fresh-sound, event-keeps, after-keeps, reached-sound}
@@ -140,7 +143,8 @@ unfolding carryOutBytes
 demand-1-bytes b s refused = rw (ne-eqb (carryBytesCode b s) 0 refused)
 
 -- A second that is refused (27 is its one refusal) hands over nothing besides.
-pub demand-1-second : (b : Bench) → secondAt b .told .code ≢ 0 → (secondAt b .bench ≡ b) × (secondAt b .handed ≡ [])
+pub demand-1-second : (b : Bench) → secondAt b .told .code ≢ 0
+    → (secondAt b .bench ≡ b) × (secondAt b .handed ≡ []) × (secondAt b .codes ≡ [])
 demand-1-second b refused = rows.second-refused b refused
 
 -- A run that is refused leaves the bench and its room, with counts of zero.
@@ -176,7 +180,7 @@ demand-1-list-text raw room refused = texts.refused-listing raw room refused
 -- checks, with the sender's own line number. Commands and status frames can be written as well as read, and come back equal."
 
 -- "A command is taken exactly when the CRISP guide's tables and our rules allow it."
--- `commandChecks` are rows 8 to 19 in their order, 25 behind 15, and `bytesChecks` rows 1 to 19 likewise; the guide's tables are in wire, specs/Table. On
+-- `commandChecks` are rows 8 to 19 in their order, 26 behind 10 and 25 behind 15, and `bytesChecks` rows 1 to 19 likewise; the guide's tables are in wire, specs/Table. On
 -- a sound bench a command is accepted and takes its effect exactly when no row holds. (Every bench that can be reached is sound: see the end of this
 -- file.)
 pub demand-2-taken : (b : Bench) → benchSound b ≡ true → (c : Command)
@@ -194,6 +198,14 @@ demand-2-command b sound c = rows.command-order b sound c
 
 pub demand-2-bytes : (b : Bench) → benchSound b ≡ true → (s : List ℕ) → Order (bytesChecks b s) (carryOutBytes b s .told .code)
 demand-2-bytes b sound s = rows.bytes-order b sound s
+
+-- So 26 (02, Q-3) is given exactly where a command that passes 8 to 10 is to be executed and asks for a picture with the power off (`Refused26`); and
+-- where its row holds, none of the rows behind it does.
+pub demand-2-dark : (b : Bench) → benchSound b ≡ true → (c : Command) → (carryOut b c .told .code ≡ 26) ↔ dark.Refused26 b c
+demand-2-dark b sound c = dark.dark-exactly b sound c
+
+pub demand-2-dark-alone : (b : Bench) (c : Command) → row26 (b .camera .power) (c .flag) (c .kind) ≡ true → NoneDue (storeChecks (b .store) c)
+demand-2-dark-alone b c due = dark.dark-alone b c due
 
 -- The parameter beside it is 1 or 2 exactly with code 8, 2 only where the first argument is in range, and else 0: that is `Parameter` (wire,
 -- proofs/Parameters).
@@ -271,10 +283,10 @@ demand-2-parameter-typed-kit b good kit text room accepted k there =
     let carries = demand-2-typed-kit b good kit text room accepted k there in
     rw (carries .code, carries .par) (rows.bytes-parameter (after b (map bytes (take k (rests kit)))) (restAt kit k))
 
--- A typed command passed rows 1 to 10 as its text was judged: its record has 0, a code from 11 to 19 or 25, and no parameter.
+-- A typed command passed rows 1 to 10 as its text was judged: its record has 0, a code from 11 to 19, 25 or 26, and no parameter.
 pub demand-2-typed-codes : (b : Bench) (kit text room : List ℕ) → typedOf b kit text room .found .told .code ≡ 0
     → (k : ℕ) → k < length (rests (bytesIn text))
-    → let bytes = recordAt (typedRoom b kit text room) (length (rests kit) + k) in reports.OfStore (toldWith (byteAt bytes 1) (byteAt bytes 2))
+    → let bytes = recordAt (typedRoom b kit text room) (length (rests kit) + k) in reports.OfState (toldWith (byteAt bytes 1) (byteAt bytes 2))
 demand-2-typed-codes b kit text room accepted k there =
     rw (reports.pupil-record b kit text room accepted k there) (reports.typed-told (benchAt (kitPart b kit .bench) (bytesIn text) k) text k there)
 
@@ -473,6 +485,20 @@ demand-3-typed b r kit text room carried before s behind stands free m closed re
     let all = rests kit ++ rests (bytesIn text) in
     let going = run-begins-within b good before s behind free m closed read none all stands left (typed-left b kit text room carried) in
     runs m (writtenOut (there .store) m) left (event-keeps b good (typed kit text room)) going (lasts .most)
+
+-- "demand 3 still speaks of what is handed over" (02, Q-3): what is said above of kinds is so whatever their codes are. In every second each entry has
+-- one code, and `Entry` (Dark) says what it does: the entry at place i, counted from 0, is answered and takes effect as the same command is and does
+-- when it is executed on the bench that the entries before it left (`foundBy`); with code 26 it leaves that bench as it was, and 26 is shown exactly
+-- when the power is off at that moment and it is an IMAGE or TRACK with a time above 0.
+pub demand-3-codes : (b : Bench) → GoodBench b → length (secondAt b .codes) ≡ length (secondAt b .handed)
+demand-3-codes b good = dark.codes-even b good
+
+pub demand-3-entry : (b : Bench) → GoodBench b → (i : ℕ) → i < length (secondAt b .handed) → (none : Kind)
+    → dark.Entry b i (getD (secondAt b .handed) i none) (getD (secondAt b .codes) i 0)
+demand-3-entry b good i there none = dark.entry b good i there none
+
+pub demand-3-last-entry : (b : Bench) → GoodBench b → dark.foundBy b (length (secondAt b .handed)) ≡ secondAt b .bench
+demand-3-last-entry b good = dark.found-last b good
 
 -- And of any idle bench that is sound: it stays idle until a RUN is accepted, whatever else happens.
 pub demand-3-idle : (b : Bench) → GoodBench b → b .store .running ≡ 255 → (es : List Event) → acceptsAny isRun b es ≡ false → Idle (after b es)

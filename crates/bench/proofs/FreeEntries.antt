@@ -23,7 +23,7 @@ use Rattle.bench.specs.Status.{freshBench, FreeTold, freeAt}
 use Rattle.bench.specs.Carry.{outcomeFor, effectOf, carryCode, carryOut, carryBytesCode, carryOutBytes}
 use Rattle.bench.specs.Second.{secondAt}
 use Rattle.bench.specs.Events.{Reached, executes}
-use Rattle.bench.proofs.Outcomes.{judge-then, carry-code, carry-bytes-code}
+use Rattle.bench.proofs.Outcomes.{behind-code, judge-then, carry-code, carry-bytes-code}
 use Rattle.bench.proofs.Sound.{GoodBench, good-store, fresh-sound, Accepted, judge-accepted, read-accepted, effect-keeps}
 use Rattle.bench.proofs.Sound.{second-is, second-sound, reached-sound}
 
@@ -120,7 +120,7 @@ unfolding judgeCode
 flush-judged = refl
 
 flush-code : (b : Bench) → GoodBench b → carryCode b flush ≡ permitCode (b .store) flush
-flush-code b good = rw (carry-code b flush (good .sound), flush-judged)
+flush-code b good = rw (carry-code b flush (good .sound), flush-judged) (behind-code b flush)
 
 -- After k of them: the macro is still open, and k fewer entries are free, or none.
 record After (free k : ℕ) (b : Bench) : Type 0 where
@@ -145,7 +145,7 @@ next-taken free k b at more = (zero, rw zero next)
         let one = append-free (b .store) good flush flush-judged permit refl in
         let same = append-open (b .store) good flush flush-judged permit refl in
         record {
-          good = effect-keeps b (at .good) flush (record { judge = flush-judged; permit = permit });
+          good = effect-keeps b (at .good) flush (record { judge = flush-judged; lit = refl; permit = permit });
           opened = omega (arith, same, at .opened);
           left = omega (arith, one, at .left);
         }

@@ -1,8 +1,11 @@
 -- From the single tests of a bench to its soundness, and from the steps of a second to the whole.
 use Prim.Native.Nat.{ℕ}
 use mathlib.Core.Path.{_≡_, refl, sym, ap, _∙_}
-use mathlib.Core.List.{[], _∷_}
+use mathlib.Core.List.{List, [], _∷_}
 use mathlib.Core.Bool.{Bool, true, false}
+use lib.ListN.{length, take}
+use lib.Seq.{take-at}
+use Rattle.wire.specs.declared.kinds.Kind.{Kind}
 use Rattle.wire.specs.Judge.{toldWith}
 use Rattle.frame.specs.declared.Frame.{Frame}
 use Rattle.frame.specs.Rules.{frameRule}
@@ -22,8 +25,10 @@ use Rattle.bench.specs.declared.Bench.{Bench}
 use Rattle.bench.specs.declared.Passed.{Passed}
 use Rattle.bench.specs.declared.Works.{Works}
 use Rattle.bench.specs.Status.{statusOf, rulesHold, benchSound, statusAt, freeAt}
-use Rattle.bench.specs.Second.{SecondTold, passedOf, executedAll, secondAt}
-use Rattle.bench.specs.Steps.{worksOf, benchOf, surveyed, stayedAt}
+use Rattle.bench.specs.declared.Executed.{Executed}
+use Rattle.bench.specs.Second.{SecondTold, passedOf, codesShown, handedCodes, secondAt}
+use Rattle.bench.specs.Steps.{worksOf, benchOf, surveyed, stayedAt, executedWith}
+use Rattle.bench.proofs.Executing.{one-code}
 
 -- What is at work of a bench is, on the bench's own pool, that bench; so what is told of it is told of the bench.
 pub own-bench : (b : Bench) (works : Works) → works ≡ worksOf b → benchOf works (b .store .pool) ≡ b
@@ -83,18 +88,23 @@ no-second b unsound = rw unsound
 
 -- Nothing is handed over in it.
 pub none-handed : (b : Bench) (group : Group) → group ≡ groupOf []
-    → (record { told = toldWith 27 0; bench = b; handed = kindsIn group } ≡ stayedAt b) × (group ≡ groupOf [])
-none-handed b group none = (rw none, none)
+    → (record { told = toldWith 27 0; bench = b; handed = kindsIn group; codes = take (group .count) (codesShown []) } ≡ stayedAt b)
+    × (group ≡ groupOf [])
+    × (codesShown [] ≡ codesShown [])
+none-handed b group none = (rw none, none, refl)
 
 -- So what is told of such a second is told of it.
-pub stayed-told : (b : Bench) (r : Passed) → (passedOf r ≡ stayedAt b) × (r .group ≡ groupOf []) → stayedAt b ≡ secondAt b
-    → (passedOf r ≡ secondAt b) × (r .group ≡ groupOf (secondAt b .handed))
-stayed-told b r stays same = (stays .0 ∙ same, stays .1 ∙ ap (λ (t : SecondTold). groupOf (t .handed)) same)
+pub stayed-told : (b : Bench) (r : Passed) → (passedOf r ≡ stayedAt b) × (r .group ≡ groupOf []) × (r .codes ≡ codesShown []) → stayedAt b ≡ secondAt b
+    → (passedOf r ≡ secondAt b) × ((r .group ≡ groupOf (secondAt b .handed)) × (r .codes ≡ codesShown (secondAt b .codes)))
+stayed-told b r stays same = (
+  stays .0 ∙ same,
+  (stays .1 ∙ ap (λ (t : SecondTold). groupOf (t .handed)) same, stays .2 ∙ ap (λ (t : SecondTold). codesShown (t .codes)) same),
+)
 
 -- The camera of a second: each series first, then what was handed over.
-pub series-first : (camera stepped done : Camera) (group : Group) → stepped ≡ cameraSecond camera → done ≡ executedAll stepped (kindsIn group)
-    → done ≡ executedAll (cameraSecond camera) (kindsIn group)
-series-first camera stepped done group series executed = executed ∙ ap (λ (k : Camera). executedAll k (kindsIn group)) series
+pub series-first : (camera stepped : Camera) (done : Executed) (group : Group) → stepped ≡ cameraSecond camera
+    → done ≡ executedWith stepped (kindsIn group) → done ≡ executedWith (cameraSecond camera) (kindsIn group)
+series-first camera stepped done group series executed = executed ∙ ap (λ (k : Camera). executedWith k (kindsIn group)) series
 
 -- A second of a store tells whether the store is sound.
 step-sound : (s : Store) (step : Step) → step ≡ steppedOf s → step .sound ≡ storeSound s
@@ -115,6 +125,10 @@ counted-on s = go (idle s) refl
     go true is = rw is
     go false is = rw is
 
+-- The codes in their places say as many codes as there are entries.
+codes-told : (c : Camera) (ks : List Kind) → take (length ks) (codesShown (handedCodes c ks)) ≡ handedCodes c ks
+codes-told c ks = take-at (handedCodes c ks) _ (length ks) (one-code c ks)
+
 -- A second of a bench whose rules hold: 27 where its store is not sound; else the series, then what the store hands over. A sound store's group says
 -- the kinds that it was made of.
 module _ (b : Bench) (step : Step) (rules : rulesHold b ≡ true) (stepped : step ≡ steppedOf (b .store)) where
@@ -133,19 +147,31 @@ module _ (b : Bench) (step : Step) (rules : rulesHold b ≡ true) (stepped : ste
     unfolding secondAt
     group-passed = ap (λ (r : Step). r .group) told ∙ rw sound
 
-    pub second-passed : (done : Camera) → done ≡ executedAll (cameraSecond (b .camera)) (kindsIn (step .group))
-        → record {
-          told = toldWith 0 0;
-          bench = record {
-            camera = done;
-            store = storeWith (b .store .pool) (b .store .counts) (b .store .closed) (b .store .opened) (step .running) (step .left);
-          };
-          handed = kindsIn (step .group);
-        } ≡ secondAt b
-    unfolding secondAt
-    second-passed done executed =
-        let s = b .store in
-        let running : step .running ≡ afterSecond s .running = ap (λ (r : Step). r .running) told in
-        let left : step .left ≡ afterSecond s .left = ap (λ (r : Step). r .left) told in
-        let handed : kindsIn (step .group) ≡ nextGroup s = ap (λ (r : Step). kindsIn (r .group)) told ∙ says sound in
-        rw (executed, handed, running, left, counted-on s, sound)
+    handed-is : kindsIn (step .group) ≡ nextGroup (b .store)
+    handed-is = ap (λ (r : Step). kindsIn (r .group)) told ∙ says sound
+
+    module _ (done : Executed) (executed : done ≡ executedWith (cameraSecond (b .camera)) (kindsIn (step .group))) where
+      by-group : done ≡ executedWith (cameraSecond (b .camera)) (nextGroup (b .store))
+      by-group = executed ∙ ap (executedWith (cameraSecond (b .camera))) handed-is
+
+      pub codes-passed : done .codes ≡ codesShown (secondAt b .codes)
+      unfolding secondAt
+      codes-passed = ap (λ (d : Executed). d .codes) by-group ∙ rw sound
+
+      pub second-passed :
+          record {
+            told = toldWith 0 0;
+            bench = record {
+              camera = done .camera;
+              store = storeWith (b .store .pool) (b .store .counts) (b .store .closed) (b .store .opened) (step .running) (step .left);
+            };
+            handed = kindsIn (step .group);
+            codes = take (step .group .count) (done .codes);
+          } ≡ secondAt b
+      unfolding secondAt
+      second-passed =
+          let s = b .store in
+          let running : step .running ≡ afterSecond s .running = ap (λ (r : Step). r .running) told in
+          let left : step .left ≡ afterSecond s .left = ap (λ (r : Step). r .left) told in
+          let count : step .group .count ≡ length (nextGroup s) = ap (λ (r : Step). r .group .count) told in
+          rw (by-group, handed-is, count, codes-told (cameraSecond (b .camera)) (nextGroup s), running, left, counted-on s, sound)

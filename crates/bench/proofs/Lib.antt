@@ -1,8 +1,9 @@
 -- Laws of the bench, in two groups: what a reader wants to know (`Demands` is the file to open first; `Cases` has 01's starred examples,
--- `FreeEntries` what is said of the free macro entries, `Report`, `TypedReport` and `LineShown` what a moderator asks of the records), and the laws
+-- `Dark` what is said of the power, `FreeEntries` of the free macro entries, `Report`, `TypedReport` and `LineShown` what a moderator asks of the records), and the laws
 -- behind those and behind single functions.
 pub mod Demands
 pub mod Cases
+pub mod Dark
 pub mod FreeEntries
 pub mod Report
 pub mod TypedReport

@@ -70,7 +70,7 @@ module _ {all : Listed} {many sender : ℕ} {room₀ room : List ℕ} {w : Works
     {n : ℕ}
     (behind : Behind all many sender room₀ room w pool (number ∷ numbers) (r ∷ rs) n)
     (fits : many * 8 ≤ length room₀) (decision : Decision) {told : Told} {part : List ℕ}
-    (decided : decisionOf decision ≡ decidedIn (w .tally) r)
+    (decided : decisionOf decision ≡ decidedIn (w .camera .power) (w .tally) r)
     (tells : told ≡ decisionOf decision .told)
     (put : part ≡ written (recordBytes sender (told .code) (told .par) number) (take (length room - n * 8) (drop (n * 8) room))) where
   abbrev b : Bench
@@ -96,7 +96,7 @@ module _ {all : Listed} {many sender : ℕ} {room₀ room : List ℕ} {w : Works
 
     tallied-after : Tallied (outcome .bench .store) (after .tally)
     tallied-after =
-        let is : after .tally ≡ tallyBy t (decidedIn t r .taken) = tally-is ∙ ap (λ (a : Answer). tallyBy t (a .taken)) decided in
+        let is : after .tally ≡ tallyBy t (decidedIn (w .camera .power) t r .taken) = tally-is ∙ ap (λ (a : Answer). tallyBy t (a .taken)) decided in
         subst (λ (o : Outcome). Tallied (o .bench .store) (after .tally)) (sym took)
         (subst (Tallied (taken b r .bench .store)) (sym is) (taken-tallied b t (behind .good) (behind .tallied) r))
 

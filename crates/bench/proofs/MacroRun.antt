@@ -29,7 +29,7 @@ use Rattle.bench.specs.Carry.{Outcome, outcomeFor, effectOf, carryCode, 
 use Rattle.bench.specs.Second.{secondAt}
 use Rattle.bench.specs.Events.{Event, command, bytes, second, run, typed, afterOne, after, secondsIn}
 use Rattle.bench.specs.Events.{executes, takes, takesAny, accepts, acceptsAny}
-use Rattle.bench.proofs.Outcomes.{carry-code, read-then, carry-bytes-code, sound-bytes}
+use Rattle.bench.proofs.Outcomes.{behindCode, behind-code, carry-code, read-then, carry-bytes-code, sound-bytes}
 use Rattle.bench.proofs.Back.{command-read}
 use Rattle.bench.proofs.InTurn.{leftBy, left-append, by-run, by-typed}
 use Rattle.bench.proofs.Sound.{GoodBench, good-store, Accepted, effect-keeps, Takes, by-command, by-bytes, by-taken, taken-good, left-good}
@@ -153,6 +153,9 @@ module _ (b : Bench) (good : GoodBench b) (free : Idle b) (m : ℕ) (closed : is
   unfolding permitCode
   run-permitted = simp (closed, eq-eqb (b .store .running) 255 free)
 
+  run-behind : behindCode b (runCommand m) ≡ 0
+  run-behind = behind-code b (runCommand m) ∙ run-permitted
+
   pub run-begins : Runs m (writtenOut (b .store) m) 0 (effectOf b (runCommand m))
   run-begins = run-starts (b .store) (good-store b good) (runCommand m) run-judged run-permitted refl
 
@@ -163,18 +166,18 @@ module _ (b : Bench) (good : GoodBench b) (free : Idle b) (m : ℕ) (closed : is
   pub run-accepted : carryOut b (runCommand m) ≡ begun
   unfolding carryOut
   run-accepted =
-      let code : carryCode b (runCommand m) ≡ 0 = rw (carry-code b (runCommand m) (good .sound), run-judged) run-permitted in
+      let code : carryCode b (runCommand m) ≡ 0 = rw (carry-code b (runCommand m) (good .sound), run-judged) run-behind in
       ap (λ n. outcomeFor n b (runCommand m)) code
 
   pub run-accepted-bytes : (s : List ℕ) → readOf s ≡ answerOf (Reading.Taken (runCommand m)) → carryOutBytes b s ≡ begun
   unfolding carryOutBytes
   run-accepted-bytes s read =
       let says = command-read s (runCommand m) read in
-      let code : carryBytesCode b s ≡ 0 = rw (carry-bytes-code b s (good .sound), read-then b s, says .0, says .1) run-permitted in
+      let code : carryBytesCode b s ≡ 0 = rw (carry-bytes-code b s (good .sound), read-then b s, says .0, says .1) run-behind in
       ap (λ n. outcomeFor n b (said s)) code ∙ ap (λ (c : Command). outcomeFor 0 b c) (says .1)
 
   pub begun-sound : GoodBench (effectOf b (runCommand m))
-  begun-sound = effect-keeps b good (runCommand m) (record { judge = run-judged; permit = run-permitted })
+  begun-sound = effect-keeps b good (runCommand m) (record { judge = run-judged; lit = refl; permit = run-permitted })
 
 -- The same where RUN m stands among the commands of a run: after those that stand before it, and with no STOP accepted behind it.
 module _ (b : Bench) (good : GoodBench b) (before : List (List ℕ)) (s : List ℕ) (behind : List (List ℕ)) where

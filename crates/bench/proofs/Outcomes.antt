@@ -1,6 +1,6 @@
 -- From the rows to the outcome of the whole: each part that passes leaves the rows behind it, and a bench that is not sound stays.
 use Prim.Native.Nat.{ℕ}
-use mathlib.Core.Path.{_≡_, sym, ap}
+use mathlib.Core.Path.{_≡_, refl, sym, ap}
 use mathlib.Core.List.{List, _++_}
 use mathlib.Core.Bool.{Bool, true, false, cond}
 use native.Mathlib.Omega.{arith}
@@ -14,10 +14,11 @@ use Rattle.wire.specs.Judge.{toldWith, judgeCode, argChecks}
 use Rattle.wire.specs.Read.{readCode, readChecks, decodeChecks, opcodeOf, flagOf, lengthOf, thirdWord, said}
 use Rattle.wire.proofs.FirstOf.{Coded, first-append}
 use Rattle.words.specs.BigEndian.{wordAt}
-use Rattle.store.specs.Checks.{permitCode, storeChecks}
+use Rattle.store.specs.Checks.{permitCode}
 use Rattle.bench.specs.declared.Bench.{Bench}
 use Rattle.bench.specs.Status.{benchSound}
-use Rattle.bench.specs.Carry.{Outcome, outcomeFor, carryCode, carryOut, bytesChecks, taken, carryBytesCode, carryOutBytes}
+use Rattle.bench.specs.Carry.{Outcome, row26, stateChecks, outcomeFor, commandChecks, carryCode, carryOut}
+use Rattle.bench.specs.Carry.{bytesChecks, taken, carryBytesCode, carryOutBytes}
 
 -- What a refusal leaves: its code and parameter, and the bench as it was.
 abbrev pub left : Told → Bench → Outcome
@@ -36,19 +37,25 @@ pub read-coded : (s : List ℕ) → Coded (readChecks s)
 read-coded s =
     (omega arith, (omega arith, (omega arith, (omega arith, decode-coded (ruleOf (opcodeOf s)) (flagOf s) (lengthOf s) (wordAt s 4) (thirdWord s (lengthOf s))))))
 
--- So those come first, and the rows of the store where they all passed.
-pub judge-then : (b : Bench) (c : Command)
-    → firstOf (argChecks c ++ storeChecks (b .store) c) ≡ cond (eqb (judgeCode c) 0) (permitCode (b .store) c) (judgeCode c)
-unfolding judgeCode permitCode
-judge-then b c = first-append (argChecks c) (storeChecks (b .store) c) (judge-coded c)
+-- What the rows behind those, behind 10, say: 26, else what the store's say.
+unfoldable pub behindCode : Bench → Command → ℕ
+behindCode b c = firstOf (stateChecks b c)
 
-pub read-then : (b : Bench) (s : List ℕ)
-    → firstOf (bytesChecks b s) ≡ cond (eqb (readCode s) 0) (permitCode (b .store) (said s)) (readCode s)
-unfolding readCode permitCode
-read-then b s = first-append (readChecks s) (storeChecks (b .store) (said s)) (read-coded s)
+pub behind-code : (b : Bench) (c : Command) → behindCode b c ≡ cond (row26 (b .camera .power) (c .flag) (c .kind)) 26 (permitCode (b .store) c)
+unfolding behindCode permitCode
+behind-code b c = refl
+
+-- So those come first, and the rows that ask for the state where they all passed.
+pub judge-then : (b : Bench) (c : Command) → firstOf (commandChecks b c) ≡ cond (eqb (judgeCode c) 0) (behindCode b c) (judgeCode c)
+unfolding judgeCode behindCode
+judge-then b c = first-append (argChecks c) (stateChecks b c) (judge-coded c)
+
+pub read-then : (b : Bench) (s : List ℕ) → firstOf (bytesChecks b s) ≡ cond (eqb (readCode s) 0) (behindCode b (said s)) (readCode s)
+unfolding readCode behindCode
+read-then b s = first-append (readChecks s) (stateChecks b (said s)) (read-coded s)
 
 -- On a sound bench row 27 does not hold.
-pub carry-code : (b : Bench) (c : Command) → benchSound b ≡ true → carryCode b c ≡ cond (eqb (judgeCode c) 0) (permitCode (b .store) c) (judgeCode c)
+pub carry-code : (b : Bench) (c : Command) → benchSound b ≡ true → carryCode b c ≡ cond (eqb (judgeCode c) 0) (behindCode b c) (judgeCode c)
 unfolding carryCode
 carry-code b c sound = rw sound (judge-then b c)
 

@@ -1,5 +1,5 @@
--- What becomes of a command depends on its own bytes alone, and not on what follows them: rows 1 to 10 read no further, and the store's rows ask for the
--- command that was read.
+-- What becomes of a command depends on its own bytes alone, and not on what follows them: rows 1 to 10 read no further, and the rows behind them ask
+-- for the command that was read.
 use Prim.Native.Nat.{ℕ}
 use mathlib.Core.Path.{_≡_, refl, sym, ap, _∙_}
 use mathlib.Core.List.{List, [], _∷_}
@@ -11,24 +11,23 @@ use Rattle.wire.specs.declared.decoding.Reading.{Reading}
 use Rattle.wire.specs.Codes.{firstOf}
 use Rattle.wire.specs.Read.{Answer, answerOf, answerFor, readCode, readOf, said}
 use Rattle.walk.proofs.Shows.{first, own-read}
-use Rattle.store.specs.Checks.{permitCode}
 use Rattle.bench.specs.declared.Bench.{Bench}
 use Rattle.bench.specs.Carry.{Outcome, outcomeFor, bytesChecks, taken}
-use Rattle.bench.proofs.Outcomes.{left, read-then}
+use Rattle.bench.proofs.Outcomes.{left, behindCode, read-then}
 
--- What the store's rows say of a command that was read.
+-- What the rows behind 10 say of a command that was read.
 abbrev permitted : Bench → Command → Outcome
-permitted b c = outcomeFor (permitCode (b .store) c) b c
+permitted b c = outcomeFor (behindCode b c) b c
 
 -- The outcome, from what reading said.
 abbrev onReading : Bench → Answer → Outcome
 onReading b a = elim (a .taken) [ [] ↦ left (a .told) b | c ∷ cs ↦ permitted b c ]
 
--- Where rows 1 to 10 pass, the store's rows say it.
+-- Where rows 1 to 10 pass, those say it.
 read-passed : (b : Bench) (s : List ℕ) → readCode s ≡ 0 → permitted b (said s) ≡ taken b s
 unfolding taken
 read-passed b s none =
-    let code : firstOf (bytesChecks b s) ≡ permitCode (b .store) (said s) = rw (read-then b s, none) in
+    let code : firstOf (bytesChecks b s) ≡ behindCode b (said s) = rw (read-then b s, none) in
     ap (λ n. outcomeFor n b (said s)) (sym code)
 
 by-reading : (b : Bench) (s : List ℕ) → taken b s ≡ onReading b (readOf s)

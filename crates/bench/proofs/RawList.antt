@@ -62,7 +62,7 @@ module _ {b₀ : Bench} {sender : ℕ} {list room₀ room : List ℕ} {w : Works
   -- A turn, whose command stands at the place and takes so many bytes.
   module _ (fits : length (rests list) * 8 ≤ length room₀) (more : at < length list)
       (decision : Decision) {told : Told} {part : List ℕ} {span : ℕ}
-      (decided : decisionOf decision ≡ decidedIn (w .tally) (ahead list at))
+      (decided : decisionOf decision ≡ decidedIn (w .camera .power) (w .tally) (ahead list at))
       (tells : told ≡ decisionOf decision .told)
       (put : part ≡ written (recordBytes sender (told .code) (told .par) (n + 1)) (take (length room - n * 8) (drop (n * 8) room)))
       (spans : span ≡ spanOf (ahead list at)) where
@@ -77,8 +77,8 @@ module _ {b₀ : Bench} {sender : ℕ} {list room₀ room : List ℕ} {w : Works
     next : Left b₀ sender list room₀ room w pool (drop at list ∷ rests (drop (at + span) list)) n
     next = subst (λ rs. Left b₀ sender list room₀ room w pool rs n) one (there .behind)
 
-    own : decisionOf decision ≡ decidedIn (w .tally) (drop at list)
-    own = decided ∙ ap (decidedIn (w .tally)) (from-place list at)
+    own : decisionOf decision ≡ decidedIn (w .camera .power) (w .tally) (drop at list)
+    own = decided ∙ ap (decidedIn (w .camera .power) (w .tally)) (from-place list at)
 
     -- It is refused,
     pub turn-refused : {verdict : Verdict} → decision ≡ Decision.Refused verdict

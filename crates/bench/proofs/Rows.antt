@@ -1,5 +1,5 @@
--- The rows of 01's codes as each call tries them. Carrying out tries, on a sound bench, rows 8 to 19 or, from bytes, 1 to 19, with 25 behind 15, and no
--- two of them have one code; on any other bench row 27 is the first. The other calls of a bench follow, and the writer of its records.
+-- The rows of 01's codes as each call tries them. Carrying out tries, on a sound bench, rows 8 to 19 or, from bytes, 1 to 19, with 26 behind 10
+-- and 25 behind 15, and no two of them have one code; on any other bench row 27 is the first. The other calls of a bench follow, and the writer of its records.
 use Prim.Native.Nat.{ℕ, suc, _≤_}
 use mathlib.Core.Path.{_≡_, refl, sym, ap, subst}
 use mathlib.Core.Logic.{_↔_, _≢_}
@@ -27,10 +27,10 @@ use Rattle.text.specs.Names.{formNamed}
 use Rattle.text.specs.Line.{isBlank, flagIn, bodyIn, nameIn, lineChecks, typedAs, lineOf}
 use Rattle.text.specs.Findings.{finding, nothing, whole, firstFound}
 use Rattle.text.specs.Assemble.{bytesIn, lineFindings, badLine}
-use Rattle.store.specs.Checks.{storeChecks}
 use Rattle.bench.specs.declared.Bench.{Bench}
 use Rattle.bench.specs.Status.{benchSound, soundCheck, statusAt, freeAt}
-use Rattle.bench.specs.Carry.{Outcome, effectOf, outcomeFor, commandChecks, carryChecks, carryOut, bytesChecks, carryBytesChecks, carryOutBytes}
+use Rattle.bench.specs.Carry.{Outcome, effectOf, outcomeFor, stateChecks, commandChecks, carryChecks, carryOut}
+use Rattle.bench.specs.Carry.{bytesChecks, carryBytesChecks, carryOutBytes}
 use Rattle.bench.specs.Second.{secondAt}
 use Rattle.bench.specs.Run.{runChecks, runCode, runOf}
 use Rattle.bench.specs.Typed.{typedFindings, typedFound, typedOf}
@@ -50,21 +50,21 @@ pub bytes-code : (b : Bench) (s : List ℕ) → benchSound b ≡ true → carryO
 unfolding carryOutBytes
 bytes-code b s sound = carry-bytes-code b s sound
 
--- The codes differ, so each says which row was the first; and none is above 25.
-abbrev upTo : ℕ → List Check → Bool
+-- The codes differ, so each says which row was the first; and none is above 26.
+abbrev pub upTo : ℕ → List Check → Bool
 upTo n [] = true
 upTo n (c ∷ cs) = leb (c .code) n && upTo n cs
 
-bytes-apart : (b : Bench) (s : List ℕ) → (apart (bytesChecks b s) ≡ true) × (upTo 25 (bytesChecks b s) ≡ true)
+bytes-apart : (b : Bench) (s : List ℕ) → (apart (bytesChecks b s) ≡ true) × (upTo 26 (bytesChecks b s) ≡ true)
 bytes-apart b s = go (ruleOf (opcodeOf s))
   where
     whole : Found → List Check
     whole found = 4 when sumDiffers s (lengthOf s) ∷ decodeChecks found (flagOf s) (lengthOf s) (wordAt s 4) (thirdWord s (lengthOf s))
 
     all : Found → List Check
-    all found = (reachChecks s ++ whole found) ++ storeChecks (b .store) (said s)
+    all found = (reachChecks s ++ whole found) ++ stateChecks b (said s)
 
-    go : (found : Found) → (apart (all found) ≡ true) × (upTo 25 (all found) ≡ true)
+    go : (found : Found) → (apart (all found) ≡ true) × (upTo 26 (all found) ≡ true)
     go (Found.Known form length) = (refl, refl)
     go Found.Unknown = (refl, refl)
 
@@ -74,7 +74,7 @@ command-order b sound c = subst (Order (commandChecks b c)) (sym (command-code b
 pub bytes-order : (b : Bench) → benchSound b ≡ true → (s : List ℕ) → Order (bytesChecks b s) (carryOutBytes b s .told .code)
 bytes-order b sound s = subst (Order (bytesChecks b s)) (sym (bytes-code b s sound)) (order (bytesChecks b s) (bytes-apart b s .0))
 
-first-upTo : (n : ℕ) (cs : List Check) → upTo n cs ≡ true → firstOf cs ≤ n
+pub first-upTo : (n : ℕ) (cs : List Check) → upTo n cs ≡ true → firstOf cs ≤ n
 first-upTo n [] h = omega arith
 first-upTo n (c ∷ cs) h =
     let parts = both (leb (c .code) n) (upTo n cs) h in
@@ -84,11 +84,11 @@ first-upTo n (c ∷ cs) h =
     go true own rest = own
     go false own rest = rest
 
-pub command-most : (b : Bench) → benchSound b ≡ true → (c : Command) → carryOut b c .told .code ≤ 25
-command-most b sound c = rw (command-code b c sound) (first-upTo 25 (commandChecks b c) refl)
+pub command-most : (b : Bench) → benchSound b ≡ true → (c : Command) → carryOut b c .told .code ≤ 26
+command-most b sound c = rw (command-code b c sound) (first-upTo 26 (commandChecks b c) refl)
 
-pub bytes-most : (b : Bench) → benchSound b ≡ true → (s : List ℕ) → carryOutBytes b s .told .code ≤ 25
-bytes-most b sound s = rw (bytes-code b s sound) (first-upTo 25 (bytesChecks b s) (bytes-apart b s .1))
+pub bytes-most : (b : Bench) → benchSound b ≡ true → (s : List ℕ) → carryOutBytes b s .told .code ≤ 26
+bytes-most b sound s = rw (bytes-code b s sound) (first-upTo 26 (bytesChecks b s) (bytes-apart b s .1))
 
 -- Where no row holds the command is taken: code 0, and its effect.
 pub command-taken : (b : Bench) → benchSound b ≡ true → (c : Command) → (carryOut b c ≡ takenAs b c) ↔ NoneDue (commandChecks b c)
@@ -115,13 +115,13 @@ pub second-order : (b : Bench) → Order (soundCheck b ∷ []) (secondAt b .told
 unfolding secondAt
 second-order b = order (soundCheck b ∷ []) refl
 
-pub second-refused : (b : Bench) → secondAt b .told .code ≢ 0 → (secondAt b .bench ≡ b) × (secondAt b .handed ≡ [])
+pub second-refused : (b : Bench) → secondAt b .told .code ≢ 0 → (secondAt b .bench ≡ b) × (secondAt b .handed ≡ []) × (secondAt b .codes ≡ [])
 unfolding secondAt
 second-refused b refused = go (benchSound b) refl
   where
-    go : (t : Bool) → benchSound b ≡ t → (secondAt b .bench ≡ b) × (secondAt b .handed ≡ [])
+    go : (t : Bool) → benchSound b ≡ t → (secondAt b .bench ≡ b) × (secondAt b .handed ≡ []) × (secondAt b .codes ≡ [])
     go true e = absurd (refused (rw e))
-    go false e = (rw e, rw e)
+    go false e = (rw e, rw e, rw e)
 
 pub status-order : (b : Bench) → Order (soundCheck b ∷ []) (statusAt b .code)
 unfolding statusAt
@@ -215,20 +215,20 @@ typed-not-27 b sound kit text room e =
     go false list small false e = lines-not-27 1 (linesOf text) e
 
 -- The parameter beside the code of carrying out: no row but 8 asks for an argument's range.
-store-ranges : (b : Bench) (c : Command) → RangeRow c (storeChecks (b .store) c)
-store-ranges b c = range-none c (storeChecks (b .store) c) refl
+state-ranges : (b : Bench) (c : Command) → RangeRow c (stateChecks b c)
+state-ranges b c = range-none c (stateChecks b c) refl
 
 pub command-parameter : (b : Bench) (c : Command) → Parameter c (carryOut b c .told)
 unfolding carryOut
 command-parameter b c =
     parameter c (carryChecks b c)
-    (λ e. absurd (omega arith), range-append c (argChecks c) (storeChecks (b .store) c) (range-args c) (store-ranges b c))
+    (λ e. absurd (omega arith), range-append c (argChecks c) (stateChecks b c) (range-args c) (state-ranges b c))
 
 pub bytes-parameter : (b : Bench) (s : List ℕ) → Parameter (said s) (carryOutBytes b s .told)
 unfolding carryOutBytes
 bytes-parameter b s =
     parameter (said s) (carryBytesChecks b s)
-    (λ e. absurd (omega arith), range-append (said s) (readChecks s) (storeChecks (b .store) (said s)) (range-read s) (store-ranges b (said s)))
+    (λ e. absurd (omega arith), range-append (said s) (readChecks s) (stateChecks b (said s)) (range-read s) (state-ranges b (said s)))
 
 -- A record's writer has row 24 alone.
 pub put-order : (bytes room : List ℕ) → Order (24 when not (hasRoom bytes room) ∷ []) (putCode bytes room)

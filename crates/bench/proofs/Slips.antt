@@ -3,15 +3,16 @@
 use Prim.Native.Nat.{ℕ, _+_, _%_, _<_}
 use mathlib.Core.Path.{_≡_, refl, ap, _∙_}
 use mathlib.Core.List.{List, [], _∷_, _++_}
-use mathlib.Core.Bool.{true}
+use mathlib.Core.Bool.{Bool, true, false, cond}
 use Rattle.wire.specs.declared.kinds.Kind.{Kind}
 use Rattle.camera.specs.declared.Series.{Series}
 use Rattle.camera.specs.declared.Camera.{Camera}
-use Rattle.camera.specs.Camera.{executedOf, cameraSecond}
+use Rattle.camera.specs.Camera.{executedOf, cameraSecond, dark}
 use Rattle.camera.proofs.Images.{counting}
 use Rattle.bench.specs.declared.Bench.{Bench}
 use Rattle.bench.specs.Status.{benchSound}
-use Rattle.bench.specs.Second.{executedAll, secondAt}
+use Rattle.bench.specs.Second.{handedTo, executedAll, secondAt}
+use Rattle.bench.proofs.Dark.{lit-handed, on-lit}
 
 -- What a second hands over counts no image: executing a kind leaves both counts.
 pub record SameCounts (a b : Camera) : Type 0 where
@@ -35,11 +36,18 @@ executing c (Kind.Wait seconds) = record { images = refl; tracked = refl }
 executing c Kind.Stop = record { images = refl; tracked = refl }
 executing c Kind.Clear = record { images = refl; tracked = refl }
 
+handing : (c : Camera) (k : Kind) → SameCounts (handedTo c k) c
+handing c k = go (dark (c .power) k)
+  where
+    go : (none : Bool) → SameCounts (cond none c (executedOf c k)) c
+    go true = record { images = refl; tracked = refl }
+    go false = executing c k
+
 executing-all : (c : Camera) (ks : List Kind) → SameCounts (executedAll c ks) c
 executing-all c [] = record { images = refl; tracked = refl }
 executing-all c (k ∷ ks) =
-    let rest = executing-all (executedOf c k) ks in
-    let first = executing c k in
+    let rest = executing-all (handedTo c k) ks in
+    let first = handing c k in
     record { images = rest .images ∙ first .images; tracked = rest .tracked ∙ first .tracked }
 
 -- "First each series ..; second .. is handed over and executed": the camera after a second is the series' step, and then the group's commands one
@@ -52,20 +60,22 @@ in-order b sound = rw sound
 pub counts-first : (b : Bench) → benchSound b ≡ true → SameCounts (secondAt b .bench .camera) (cameraSecond (b .camera))
 counts-first b sound = rw (in-order b sound) (executing-all (cameraSecond (b .camera)) (secondAt b .handed))
 
--- .. and an image that was asked for, by the last command of the group, is counted one second later.
-executed-last : (c : Camera) (ks : List Kind) (k : Kind) → executedAll c (ks ++ (k ∷ [])) ≡ executedOf (executedAll c ks) k
+-- .. and an image that was asked for with the power on, by the last command of the group, is counted one second later.
+executed-last : (c : Camera) (ks : List Kind) (k : Kind) → executedAll c (ks ++ (k ∷ [])) ≡ handedTo (executedAll c ks) k
 executed-last c [] k = refl
-executed-last c (x ∷ ks) k = executed-last (executedOf c x) ks k
+executed-last c (x ∷ ks) k = executed-last (handedTo c x) ks k
 
 pub one-later : (b : Bench) (ks : List Kind) (time interval : ℕ) → benchSound b ≡ true → benchSound (secondAt b .bench) ≡ true
-    → secondAt b .handed ≡ ks ++ (Kind.ImgImage time interval ∷ []) → 0 < time
+    → secondAt b .handed ≡ ks ++ (Kind.ImgImage time interval ∷ []) → executedAll (cameraSecond (b .camera)) ks .power ≡ true → 0 < time
     → secondAt (secondAt b .bench) .bench .camera .image .count ≡ (secondAt b .bench .camera .image .count + 1) % 65536
-one-later b ks time interval sound next handed h =
+one-later b ks time interval sound next handed on h =
     let before : Camera = executedAll (cameraSecond (b .camera)) ks in
-    let started : secondAt b .bench .camera ≡ executedOf before (Kind.ImgImage time interval) =
+    let image : Kind = Kind.ImgImage time interval in
+    let started : secondAt b .bench .camera ≡ executedOf before image =
     in-order b sound
     ∙ ap (executedAll (cameraSecond (b .camera))) handed
-    ∙ executed-last (cameraSecond (b .camera)) ks (Kind.ImgImage time interval)
+    ∙ executed-last (cameraSecond (b .camera)) ks image
+    ∙ lit-handed before image (on-lit (before .power) image on)
     in
     counts-first (secondAt b .bench) next .images
     ∙ rw started (ap (λ (s : Series). s .count) (counting time interval (before .image .count) h))

@@ -31,10 +31,10 @@ use Rattle.store.proofs.Handed.{handed-plainly}
 use Rattle.store.proofs.ClosedMarks.{marked-is}
 use Rattle.bench.specs.declared.Bench.{Bench}
 use Rattle.bench.specs.Status.{freshBench, statusOf, benchSound, statusAt}
-use Rattle.bench.specs.Carry.{outcomeFor, effectOf, commandChecks, carryCode, carryOut, bytesChecks, taken, carryBytesCode, carryOutBytes}
+use Rattle.bench.specs.Carry.{row26, outcomeFor, effectOf, commandChecks, carryCode, carryOut, bytesChecks, taken, carryBytesCode, carryOutBytes}
 use Rattle.bench.specs.Second.{benchAfter, secondAt}
 use Rattle.bench.specs.Events.{Event, command, bytes, second, run, typed, afterOne, after, Reached}
-use Rattle.bench.proofs.Outcomes.{judge-then, read-then, carry-code, carry-bytes-code}
+use Rattle.bench.proofs.Outcomes.{behindCode, behind-code, judge-then, read-then, carry-code, carry-bytes-code}
 use Rattle.bench.proofs.InTurn.{leftBy, by-run, by-typed}
 use Rattle.bench.proofs.Camera.{GoodCamera, fresh-camera, camera-second, executed-good, handed-good}
 
@@ -130,9 +130,10 @@ good-store b good = facts-of b good .store
 pub fresh-sound : GoodBench freshBench
 fresh-sound = of-facts freshBench (record { camera = fresh-camera; store = fresh-good })
 
--- A command that is accepted passed rows 8 to 10 and the store's rows.
+-- A command that is accepted passed rows 8 to 10, row 26 and the store's rows.
 pub record Accepted (b : Bench) (c : Command) : Type 0 where
   pub judge : judgeCode c ≡ 0
+  pub lit : row26 (b .camera .power) (c .flag) (c .kind) ≡ false
   pub permit : permitCode (b .store) c ≡ 0
 
 no-row : (first rest : ℕ) → cond (eqb first 0) rest first ≡ 0 → (first ≡ 0) × (rest ≡ 0)
@@ -142,15 +143,25 @@ no-row first rest h = go (eqb first 0) refl
     go true e = (eqb-true first 0 e, rw e at h)
     go false e = absurd (eqb-false first 0 e (rw e at h))
 
+not-due : (due : Bool) (rest : ℕ) → cond due 26 rest ≡ 0 → (due ≡ false) × (rest ≡ 0)
+not-due true rest h = absurd (omega arith)
+not-due false rest h = (refl, h)
+
+-- From the code of each part, 0.
+accepted-of : (b : Bench) (c : Command) → judgeCode c ≡ 0 → behindCode b c ≡ 0 → Accepted b c
+accepted-of b c judge zero =
+    let parts = not-due (row26 (b .camera .power) (c .flag) (c .kind)) (permitCode (b .store) c) (sym (behind-code b c) ∙ zero) in
+    record { judge = judge; lit = parts .0; permit = parts .1 }
+
 pub judge-accepted : (b : Bench) (c : Command) → firstOf (commandChecks b c) ≡ 0 → Accepted b c
 judge-accepted b c zero =
-    let parts = no-row (judgeCode c) (permitCode (b .store) c) (sym (judge-then b c) ∙ zero) in
-    record { judge = parts .0; permit = parts .1 }
+    let parts = no-row (judgeCode c) (behindCode b c) (sym (judge-then b c) ∙ zero) in
+    accepted-of b c (parts .0) (parts .1)
 
 pub read-accepted : (b : Bench) (s : List ℕ) → firstOf (bytesChecks b s) ≡ 0 → Accepted b (said s)
 read-accepted b s zero =
-    let parts = no-row (readCode s) (permitCode (b .store) (said s)) (sym (read-then b s) ∙ zero) in
-    record { judge = read-allowed s (parts .0); permit = parts .1 }
+    let parts = no-row (readCode s) (behindCode b (said s)) (sym (read-then b s) ∙ zero) in
+    accepted-of b (said s) (read-allowed s (parts .0)) (parts .1)
 
 -- It keeps a bench sound.
 camera-after : (b : Bench) → GoodCamera (b .camera) → (c : Command) → judgeCode c ≡ 0 → (flag : Bool) → c .flag ≡ flag

@@ -161,12 +161,12 @@ module _ {b₀ : Bench} {text room₀ room : List ℕ} {w : Works} {pool : List 
       one-more = omega (arith, first .counted)
 
       module _ (fits : length (rests (bytesIn text)) * 8 ≤ length room₀) (decision : Decision) {told : Told} {part : List ℕ}
-          (decided : decisionOf decision ≡ permittedBy (w .tally) c)
+          (decided : decisionOf decision ≡ permittedBy (w .camera .power) (w .tally) c)
           (tells : told ≡ decisionOf decision .told)
           (put : part ≡ written (recordBytes 2 (told .code) (told .par) (number + 1)) (take (length room - n * 8) (drop (n * 8) room))) where
-        -- Rows 1 to 10 passed, so that the store's rows decide.
-        whole : decisionOf decision ≡ decidedIn (w .tally) own
-        whole = decided ∙ read-passed (w .tally) own c (sym (reads-listed c (commandsIn later) (allowed .0 .0) (allowed .0 .1)))
+        -- Rows 1 to 10 passed, so that the rows behind them decide.
+        whole : decisionOf decision ≡ decidedIn (w .camera .power) (w .tally) own
+        whole = decided ∙ read-passed (w .camera .power) (w .tally) own c (sym (reads-listed c (commandsIn later) (allowed .0 .0) (allowed .0 .1)))
 
         pub turn-refused : {verdict : Verdict} → decision ≡ Decision.Refused verdict
             → AtLine b₀ text room₀ (putMid (n * 8) (length room - n * 8) room part) w pool (at + (length line + 1)) (number + 1) (n + 1)

@@ -19,14 +19,13 @@ use Rattle.text.specs.Assemble.{lineNumbers, bytesIn, badLine}
 use Rattle.text.proofs.Found.{found-silent, whole-silent}
 use Rattle.text.proofs.Assembled.{AllRead, assembled-passes}
 use Rattle.store.specs.declared.roles.Role.{Role}
-use Rattle.store.specs.Checks.{permitCode, storeChecks}
 use Rattle.bench.specs.declared.Bench.{Bench}
 use Rattle.bench.specs.Status.{freshBench, benchSound}
-use Rattle.bench.specs.Carry.{bytesChecks, taken}
+use Rattle.bench.specs.Carry.{stateChecks, bytesChecks, taken}
 use Rattle.bench.specs.Events.{Event, typed, after, Reached, accepts, acceptsAny}
 use Rattle.bench.specs.Run.{kitPart, runOf, roomAfter}
 use Rattle.bench.specs.Typed.{typedFindings, typedFound, typedPart, typedReport, typedOf, typedRoom}
-use Rattle.bench.proofs.Outcomes.{read-then}
+use Rattle.bench.proofs.Outcomes.{behindCode, read-then}
 use Rattle.bench.proofs.InTurn.{typed-even, both-left, run-left}
 use Rattle.bench.proofs.Sound.{GoodBench}
 use Rattle.bench.proofs.MacroRun.{after-append}
@@ -155,46 +154,46 @@ same-run b kit text room accepted =
     bench-is b kit text room code =
         both-left b kit (lineNumbers text) (bytesIn text) (typed-even text) ∙ sym (run-left b kit (bytesIn text) room code)
 
--- Rows 1 to 10 passed when the text was judged: a typed command gets 0 or a code of the store, and no parameter.
-abbrev pub storeCode : ℕ → Bool
-storeCode n = (leb 11 n && leb n 19) || eqb n 25
+-- Rows 1 to 10 passed when the text was judged: a typed command gets 0 or a code that asks for the state, and no parameter.
+abbrev pub stateCode : ℕ → Bool
+stateCode n = (leb 11 n && leb n 19) || eqb n 25 || eqb n 26
 
-pub record OfStore (told : Told) : Type 0 where
-  pub code : (told .code ≡ 0) ⊎ (storeCode (told .code) ≡ true)
+pub record OfState (told : Told) : Type 0 where
+  pub code : (told .code ≡ 0) ⊎ (stateCode (told .code) ≡ true)
   pub par : told .par ≡ 0
 
 abbrev within : List Check → Bool
 within [] = true
-within (c ∷ cs) = storeCode (c .code) && within cs
+within (c ∷ cs) = stateCode (c .code) && within cs
 
-first-within : (cs : List Check) → within cs ≡ true → (firstOf cs ≡ 0) ⊎ (storeCode (firstOf cs) ≡ true)
+first-within : (cs : List Check) → within cs ≡ true → (firstOf cs ≡ 0) ⊎ (stateCode (firstOf cs) ≡ true)
 first-within [] all = inl refl
 first-within (c ∷ cs) all =
-    let parts = both (storeCode (c .code)) (within cs) all in
+    let parts = both (stateCode (c .code)) (within cs) all in
     go (c .due) (parts .0) (first-within cs (parts .1))
   where
-    go : (t : Bool) → storeCode (c .code) ≡ true → (firstOf cs ≡ 0) ⊎ (storeCode (firstOf cs) ≡ true)
-        → (cond t (c .code) (firstOf cs) ≡ 0) ⊎ (storeCode (cond t (c .code) (firstOf cs)) ≡ true)
+    go : (t : Bool) → stateCode (c .code) ≡ true → (firstOf cs ≡ 0) ⊎ (stateCode (firstOf cs) ≡ true)
+        → (cond t (c .code) (firstOf cs) ≡ 0) ⊎ (stateCode (cond t (c .code) (firstOf cs)) ≡ true)
     go true own rest = inr own
     go false own rest = rest
 
-read-told : (b : Bench) (s : List ℕ) → readCode s ≡ 0 → OfStore (taken b s .told)
-unfolding taken permitCode
+read-told : (b : Bench) (s : List ℕ) → readCode s ≡ 0 → OfState (taken b s .told)
+unfolding taken behindCode
 read-told b s read =
-    let code : firstOf (bytesChecks b s) ≡ permitCode (b .store) (said s) = rw (read-then b s, read) in
-    let rows = first-within (storeChecks (b .store) (said s)) refl in
-    record { code = rw code rows; par = rw (code, ne-eqb (permitCode (b .store) (said s)) 8 (not-8 (permitCode (b .store) (said s)) rows)) }
+    let code : firstOf (bytesChecks b s) ≡ behindCode b (said s) = rw (read-then b s, read) in
+    let rows = first-within (stateChecks b (said s)) refl in
+    record { code = rw code rows; par = rw (code, ne-eqb (behindCode b (said s)) 8 (not-8 (behindCode b (said s)) rows)) }
   where
-    not-8 : (n : ℕ) → (n ≡ 0) ⊎ (storeCode n ≡ true) → n ≢ 8
+    not-8 : (n : ℕ) → (n ≡ 0) ⊎ (stateCode n ≡ true) → n ≢ 8
     not-8 n (inl none) e = omega arith
-    not-8 n (inr some) e = false≢true (ap storeCode (sym e) ∙ some)
+    not-8 n (inr some) e = false≢true (ap stateCode (sym e) ∙ some)
 
 read-at : (rs : List (List ℕ)) → AllRead rs → (k : ℕ) → k < length rs → readCode (getD rs k []) ≡ 0
 read-at [] all k there = absurd (omega arith)
 read-at (r ∷ rs) all zero there = all .0
 read-at (r ∷ rs) all (suc k) there = read-at rs (all .1) k (omega arith)
 
-pub typed-told : (b : Bench) (text : List ℕ) (k : ℕ) → k < length (rests (bytesIn text)) → OfStore (taken b (restAt (bytesIn text) k) .told)
+pub typed-told : (b : Bench) (text : List ℕ) (k : ℕ) → k < length (rests (bytesIn text)) → OfState (taken b (restAt (bytesIn text) k) .told)
 typed-told b text k there = read-told b (restAt (bytesIn text) k) (read-at (rests (bytesIn text)) (assembled-passes text) k there)
 
 -- A typed run told command by command, each an event of its own from its bytes; none where the run is refused.

@@ -22,17 +22,19 @@ use Rattle.bench.specs.declared.Status.{Status}
 use Rattle.bench.specs.declared.Free.{Free}
 use Rattle.bench.specs.Status.{StatusTold, toldStatus, FreeTold, toldFree}
 use Rattle.bench.specs.Carry.{Outcome, verdictOf, outcomeOf}
-use Rattle.bench.specs.Second.{SecondTold, passedOf}
+use Rattle.bench.specs.Second.{SecondTold, passedOf, codesShown}
 
--- Which of the four verdicts a verdict is, and which one a code tells of.
+-- Which of the five verdicts a verdict is, and which one a code tells of.
 abbrev placeOf : Verdict → ℕ
 placeOf Verdict.Accepted = 0
 placeOf Verdict.Unsound = 1
 placeOf (Verdict.Misread refusal) = 2
 placeOf (Verdict.Denied denial) = 3
+placeOf Verdict.Dark = 4
 
 abbrev placeTold : ℕ → ℕ
-placeTold code = cond (eqb code 0) 0 (cond (eqb code 27) 1 (cond ((leb 11 code && leb code 19) || eqb code 25) 3 2))
+placeTold code =
+    cond (eqb code 0) 0 (cond (eqb code 27) 1 (cond (eqb code 26) 4 (cond ((leb 11 code && leb code 19) || eqb code 25) 3 2)))
 
 refusal-place : (r : Refusal) → placeTold (toldOf r .code) ≡ 2
 refusal-place Refusal.TooFewBytes = refl
@@ -64,11 +66,13 @@ place-told Verdict.Accepted = refl
 place-told Verdict.Unsound = refl
 place-told (Verdict.Misread refusal) = refusal-place refusal
 place-told (Verdict.Denied denial) = denial-place denial
+place-told Verdict.Dark = refl
 
 -- Two verdicts with the same code and parameter are the same.
 one-placed : (a b : Verdict) → placeOf a ≡ placeOf b → verdictOf a ≡ verdictOf b → a ≡ b
 one-placed Verdict.Accepted Verdict.Accepted p e = refl
 one-placed Verdict.Unsound Verdict.Unsound p e = refl
+one-placed Verdict.Dark Verdict.Dark p e = refl
 one-placed (Verdict.Misread r) (Verdict.Misread s) p e = ap Verdict.Misread (one-refusal r s e)
 one-placed (Verdict.Denied c) (Verdict.Denied d) p e = ap Verdict.Denied (denial-told c d (ap (λ (t : Told). t .code) e))
 one-placed Verdict.Accepted Verdict.Unsound p e = absurd (omega arith)
@@ -83,6 +87,14 @@ one-placed (Verdict.Misread r) (Verdict.Denied d) p e = absurd (omega arith)
 one-placed (Verdict.Denied d) Verdict.Accepted p e = absurd (omega arith)
 one-placed (Verdict.Denied d) Verdict.Unsound p e = absurd (omega arith)
 one-placed (Verdict.Denied d) (Verdict.Misread r) p e = absurd (omega arith)
+one-placed Verdict.Dark Verdict.Accepted p e = absurd (omega arith)
+one-placed Verdict.Dark Verdict.Unsound p e = absurd (omega arith)
+one-placed Verdict.Dark (Verdict.Misread r) p e = absurd (omega arith)
+one-placed Verdict.Dark (Verdict.Denied d) p e = absurd (omega arith)
+one-placed Verdict.Accepted Verdict.Dark p e = absurd (omega arith)
+one-placed Verdict.Unsound Verdict.Dark p e = absurd (omega arith)
+one-placed (Verdict.Misread r) Verdict.Dark p e = absurd (omega arith)
+one-placed (Verdict.Denied d) Verdict.Dark p e = absurd (omega arith)
 
 pub one-verdict : (a b : Verdict) → verdictOf a ≡ verdictOf b → a ≡ b
 one-verdict a b e = one-placed a b (sym (place-told a) ∙ ap (λ (t : Told). placeTold (t .code)) e ∙ place-told b) e
@@ -94,15 +106,20 @@ one-carried a b e =
     let bench : a .bench ≡ b .bench = ap (λ (o : Outcome). o .bench) e in
     rw (verdict, bench)
 
--- Two results of `second` that tell the same, with groups of what they tell, are the same.
-pub one-passed : (told : SecondTold) (a b : Passed) → passedOf a ≡ told → a .group ≡ groupOf (told .handed)
-    → passedOf b ≡ told → b .group ≡ groupOf (told .handed) → a ≡ b
-one-passed told a b tells-a group-a tells-b group-b =
-    let same : passedOf a ≡ passedOf b = tells-a ∙ sym tells-b in
+-- Two results of `second` that tell the same, with groups and codes of what they tell, are the same.
+pub record Tells (told : SecondTold) (r : Passed) : Type 0 where
+  pub tells : passedOf r ≡ told
+  pub group : r .group ≡ groupOf (told .handed)
+  pub codes : r .codes ≡ codesShown (told .codes)
+
+pub one-passed : (told : SecondTold) (a b : Passed) → Tells told a → Tells told b → a ≡ b
+one-passed told a b of-a of-b =
+    let same : passedOf a ≡ passedOf b = of-a .tells ∙ sym (of-b .tells) in
     let verdict : a .verdict ≡ b .verdict = one-verdict (a .verdict) (b .verdict) (ap (λ (o : SecondTold). o .told) same) in
-    let group : a .group ≡ b .group = group-a ∙ sym group-b in
+    let group : a .group ≡ b .group = of-a .group ∙ sym (of-b .group) in
+    let codes : a .codes ≡ b .codes = of-a .codes ∙ sym (of-b .codes) in
     let bench : a .bench ≡ b .bench = ap (λ (o : SecondTold). o .bench) same in
-    rw (verdict, group, bench)
+    rw (verdict, group, codes, bench)
 
 -- Two answers of `status` that tell the same are the same.
 pub one-status : (a b : Status) → toldStatus a ≡ toldStatus b → a ≡ b

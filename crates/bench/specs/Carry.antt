@@ -1,15 +1,16 @@
--- Carrying out one command: the codes in their order, the effect of an accepted command, and that a refused one changes no part of the state.
+-- Carrying out one command: the codes in their order, 26 among them (02, Q-3), the effect of an accepted command, and that a refused one changes no part of the state.
 use Prim.Native.Nat.{ℕ}
 use mathlib.Core.List.{List, _∷_, _++_}
-use mathlib.Core.Bool.{cond}
+use mathlib.Core.Bool.{Bool, cond, not, _&&_}
 use lib.Dec.{eqb}
+use Rattle.wire.specs.declared.kinds.Kind.{Kind}
 use Rattle.wire.specs.declared.kinds.Command.{Command}
 use Rattle.wire.specs.declared.judging.Told.{Told}
-use Rattle.wire.specs.Codes.{Check, firstOf}
+use Rattle.wire.specs.Codes.{Check, _when_, firstOf}
 use Rattle.wire.specs.Judge.{toldWith, toldOf, argChecks, firstBadIn, parOf}
 use Rattle.wire.specs.Read.{said, readChecks}
 use Rattle.camera.specs.declared.Camera.{Camera}
-use Rattle.camera.specs.Camera.{executedOf}
+use Rattle.camera.specs.Camera.{executedOf, dark}
 use Rattle.store.specs.Checks.{codeOf, storeChecks}
 use Rattle.store.specs.Effects.{appliedOf}
 use Rattle.bench.specs.declared.Bench.{Bench}
@@ -22,6 +23,7 @@ abbrev pub verdictOf : Verdict → Told
 verdictOf Verdict.Accepted = toldWith 0 0
 verdictOf Verdict.Unsound = toldWith 27 0
 verdictOf (Verdict.Misread refusal) = toldOf refusal
+verdictOf Verdict.Dark = toldWith 26 0
 verdictOf (Verdict.Denied denial) = toldWith (codeOf denial) 0
 
 -- What carrying out answers: the code with its parameter, and the bench afterwards.
@@ -43,9 +45,20 @@ effectOf b c = record { camera = cameraAfter (b .camera) c; store = appliedOf (b
 abbrev pub outcomeFor : ℕ → Bench → Command → Outcome
 outcomeFor code b c = record { told = toldWith code (parOf code (firstBadIn c)); bench = cond (eqb code 0) (effectOf b c) b }
 
--- Rows 8 to 19 and 25, on a decoded command.
+-- 02, Q-3: "26, executed commands only".
+abbrev pub row26 : Bool → Bool → Kind → Bool
+row26 power flag kind = not flag && dark power kind
+
+abbrev pub darkCheck : Bool → Command → Check
+darkCheck power c = 26 when row26 power (c .flag) (c .kind)
+
+-- What is asked of the state: 26, "after 10 and before 11", then the store's rows.
+abbrev pub stateChecks : Bench → Command → List Check
+stateChecks b c = darkCheck (b .camera .power) c ∷ storeChecks (b .store) c
+
+-- Rows 8 to 10, 26, 11 to 19 and 25, on a decoded command.
 abbrev pub commandChecks : Bench → Command → List Check
-commandChecks b c = argChecks c ++ storeChecks (b .store) c
+commandChecks b c = argChecks c ++ stateChecks b c
 
 -- "Carrying one out tries 27, then .. 8 to 19 if it is already decoded."
 abbrev pub carryChecks : Bench → Command → List Check
@@ -58,9 +71,9 @@ unfoldable pub carryOut : Bench → Command → Outcome
 unfolding carryCode
 carryOut b c = outcomeFor (carryCode b c) b c
 
--- Rows 1 to 19 and 25, on bytes.
+-- Rows 1 to 10, 26, 11 to 19 and 25, on bytes.
 abbrev pub bytesChecks : Bench → List ℕ → List Check
-bytesChecks b s = readChecks s ++ storeChecks (b .store) (said s)
+bytesChecks b s = readChecks s ++ stateChecks b (said s)
 
 -- The same rows on a bench that is known to be sound: what a run does with each command.
 unfoldable pub taken : Bench → List ℕ → Outcome

@@ -1,28 +1,31 @@
 -- Steps of the implementation; no public promise of the product needs them.
--- A bench at work on a lent pool; what becomes of a command, from the tally of the macros alone; what a survey finds; and what refused calls hand
+-- A bench at work on a lent pool; what becomes of a command, from the power and the tally of the macros alone; what a survey finds; and what refused calls hand
 -- back.
 use Prim.Native.Nat.{ℕ}
 use mathlib.Core.Path.{_≡_}
 use mathlib.Core.List.{List, [], _∷_, _++_}
-use mathlib.Core.Bool.{true}
+use mathlib.Core.Bool.{Bool, true}
 use lib.ListN.{length}
+use Rattle.wire.specs.declared.kinds.Kind.{Kind}
 use Rattle.wire.specs.declared.kinds.Command.{Command}
-use Rattle.wire.specs.Codes.{firstOf}
+use Rattle.wire.specs.Codes.{Check, firstOf}
 use Rattle.wire.specs.Judge.{toldWith, argChecks}
 use Rattle.wire.specs.Read.{Answer, answerFor, readChecks, said}
+use Rattle.camera.specs.declared.Camera.{Camera}
 use Rattle.store.specs.declared.tally.Tally.{Tally}
 use Rattle.store.specs.declared.tally.Survey.{Survey}
-use Rattle.store.specs.TallySteps.{tallyOf, bareOf, storeOf, tallyChecks, tallyCode, tallyAfter, poolAfter, Tallied}
+use Rattle.store.specs.TallySteps.{tallyOf, bareOf, storeOf, tallyChecks, tallyAfter, poolAfter, Tallied}
 use Rattle.bench.specs.declared.Bench.{Bench}
 use Rattle.bench.specs.declared.Works.{Works}
+use Rattle.bench.specs.declared.Executed.{Executed}
 use Rattle.bench.specs.declared.deciding.Decision.{Decision}
 use Rattle.bench.specs.declared.lists.Ran.{Ran}
 use Rattle.bench.specs.declared.lists.Begun.{Begun}
 use Rattle.bench.specs.declared.lists.typed.TypedBegun.{TypedBegun}
 use Rattle.bench.specs.declared.lists.typed.TypedRan.{TypedRan}
 use Rattle.bench.specs.Status.{benchSound}
-use Rattle.bench.specs.Carry.{Outcome, verdictOf, cameraAfter}
-use Rattle.bench.specs.Second.{SecondTold}
+use Rattle.bench.specs.Carry.{Outcome, verdictOf, cameraAfter, darkCheck}
+use Rattle.bench.specs.Second.{SecondTold, codesShown, executedAll, handedCodes}
 
 -- A bench at work, its pool lent beside it: what of a bench is at work, before the lengths of its macros are worked out; the bench that works and pool
 -- are; and what is at work after an accepted command.
@@ -46,17 +49,20 @@ abbrev pub decisionOf : Decision → Answer
 decisionOf (Decision.Accepted c) = record { told = toldWith 0 0; taken = c ∷ [] }
 decisionOf (Decision.Refused verdict) = record { told = verdictOf verdict; taken = [] }
 
--- The store's rows alone, on a command that was read or judged.
-unfoldable pub permittedBy : Tally → Command → Answer
-permittedBy t c = answerFor (tallyCode t c) c
+-- Row 26 and the store's, on a command that was read or judged.
+abbrev pub behindChecks : Bool → Tally → Command → List Check
+behindChecks power t c = darkCheck power c ∷ tallyChecks t c
 
--- Rows 8 to 10 and the store's, on a decoded command.
-unfoldable pub decidedBy : Tally → Command → Answer
-decidedBy t c = answerFor (firstOf (argChecks c ++ tallyChecks t c)) c
+unfoldable pub permittedBy : Bool → Tally → Command → Answer
+permittedBy power t c = answerFor (firstOf (behindChecks power t c)) c
 
--- Rows 1 to 10 and the store's, on bytes.
-unfoldable pub decidedIn : Tally → List ℕ → Answer
-decidedIn t s = answerFor (firstOf (readChecks s ++ tallyChecks t (said s))) (said s)
+-- Rows 8 to 10 before those, on a decoded command.
+unfoldable pub decidedBy : Bool → Tally → Command → Answer
+decidedBy power t c = answerFor (firstOf (argChecks c ++ behindChecks power t c)) c
+
+-- Rows 1 to 10 before those, on bytes.
+unfoldable pub decidedIn : Bool → Tally → List ℕ → Answer
+decidedIn power t s = answerFor (firstOf (readChecks s ++ behindChecks power t (said s))) (said s)
 
 -- A bench after a command took effect by the tally of its macros.
 abbrev pub effectBy : Bench → Tally → Command → Bench
@@ -80,7 +86,11 @@ surveyed b = record { sound = benchSound b; tally = tallyOf (b .store) }
 
 -- A second of a bench that is not sound.
 abbrev pub stayedAt : Bench → SecondTold
-stayedAt b = record { told = toldWith 27 0; bench = b; handed = [] }
+stayedAt b = record { told = toldWith 27 0; bench = b; handed = []; codes = [] }
+
+-- What executing a group leaves: the camera, and the codes in their places.
+abbrev pub executedWith : Camera → List Kind → Executed
+executedWith camera ks = record { camera = executedAll camera ks; codes = codesShown (handedCodes camera ks) }
 
 -- A refused run: the bench as it was, and counts of zero.
 abbrev pub refusedWith : Bench → Begun → Ran

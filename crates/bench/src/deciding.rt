@@ -1,5 +1,6 @@
-// What becomes of a command, by the tally of the macros alone: it is accepted, or refused with a verdict.
+// What becomes of a command, by the power and the tally of the macros alone: it is accepted, or refused with a verdict.
 ghost use mathlib.Core.Path.{_≡_};
+ghost use Rattle.bench.specs.Carry.{row26};
 ghost use Rattle.bench.specs.Steps.{decisionOf, permittedBy, decidedBy, decidedIn};
 use super::Verdict;
 use super::told_of;
@@ -25,32 +26,46 @@ pub fn told_by(decision: Decision) -> Told
     }
 }
 
-// Codes 11 to 19 and 25, on a command that passed the earlier ones.
-pub fn permitted(tally: Tally, command: Command) -> Decision
-    ensures { λ r. ⌜ decisionOf r ≡ permittedBy tally command ⌝ }
+// Row 26: an executed command that asks for pictures with the power off.
+fn lacks_power(power: bool, command: Command) -> bool
+    ensures { λ r. ⌜ r ≡ row26 power (command .flag) (command .kind) ⌝ }
 {
+    if command.flag {
+        return false;
+    }
+    let kind = command.kind;
+    camera::is_dark(power, kind)
+}
+
+// Codes 26, 11 to 19 and 25, on a command that passed the earlier ones.
+pub fn permitted(power: bool, tally: Tally, command: Command) -> Decision
+    ensures { λ r. ⌜ decisionOf r ≡ permittedBy power tally command ⌝ }
+{
+    if lacks_power(power, command) {
+        return Decision::Refused(Verdict::Dark);
+    }
     match tally.permits(command) {
         Permit::Denied(denial) => Decision::Refused(Verdict::Denied(denial)),
         Permit::Granted => Decision::Accepted(command),
     }
 }
 
-// A decoded command: 8 to 19 and 25.
-pub fn decide(tally: Tally, command: Command) -> Decision
-    ensures { λ r. ⌜ decisionOf r ≡ decidedBy tally command ⌝ }
+// A decoded command: 8 to 10, 26, 11 to 19 and 25.
+pub fn decide(power: bool, tally: Tally, command: Command) -> Decision
+    ensures { λ r. ⌜ decisionOf r ≡ decidedBy power tally command ⌝ }
 {
     match wire::judge(command) {
         Judged::Refused(refusal) => Decision::Refused(Verdict::Misread(refusal)),
-        Judged::Allowed => permitted(tally, command),
+        Judged::Allowed => permitted(power, tally, command),
     }
 }
 
-// The command at the front of these bytes: 1 to 19 and 25.
-pub fn decide_bytes(tally: Tally, bytes: &[u8]) -> Decision
-    ensures { λ r. ⌜ decisionOf r ≡ decidedIn tally (now (bytes .entry)) ⌝ }
+// The command at the front of these bytes: 1 to 10, 26, 11 to 19 and 25.
+pub fn decide_bytes(power: bool, tally: Tally, bytes: &[u8]) -> Decision
+    ensures { λ r. ⌜ decisionOf r ≡ decidedIn power tally (now (bytes .entry)) ⌝ }
 {
     match wire::read_command(bytes) {
         Reading::Refused(refusal) => Decision::Refused(Verdict::Misread(refusal)),
-        Reading::Taken(command) => permitted(tally, command),
+        Reading::Taken(command) => permitted(power, tally, command),
     }
 }

@@ -7,8 +7,8 @@ ghost use Rattle.store.specs.Effects.{groupOf, kindsIn};
 ghost use Rattle.store.specs.TallySteps.{poolAfter};
 ghost use Rattle.bench.specs.Status.{freshBench, paceOf, statusOf, rulesHold, benchSound, toldStatus, statusAt, toldFree, freeAt};
 ghost use Rattle.bench.specs.Carry.{verdictOf, outcomeOf, cameraAfter, carryOut, carryOutBytes};
-ghost use Rattle.bench.specs.Second.{passedOf, executedAll, secondAt};
-ghost use Rattle.bench.specs.Steps.{worksOf, worksAfter, benchOf, decisionOf, effectBy, carriedBy, surveyed, stayedAt};
+ghost use Rattle.bench.specs.Second.{passedOf, codesShown, secondAt};
+ghost use Rattle.bench.specs.Steps.{worksOf, worksAfter, benchOf, decisionOf, effectBy, carriedBy, surveyed, stayedAt, executedWith};
 
 mod deciding;
 mod lists;
@@ -36,6 +36,9 @@ use wire::Command;
 use wire::Refusal;
 use wire::Told;
 
+// The code of a picture that is asked for with the power off.
+const DARK: u8 = 26;
+
 pub struct Bench {
     pub camera: Camera,
     pub store: Store,
@@ -45,6 +48,7 @@ pub enum Verdict {
     Accepted,
     Unsound,
     Misread(Refusal),
+    Dark,
     Denied(Denial),
 }
 
@@ -54,11 +58,13 @@ pub struct Carried {
     pub verdict: Verdict,
 }
 
-// A second passed: the bench afterwards, the verdict, and the group of entries that was handed over.
+// A second passed: the bench afterwards, the verdict, the group of entries that was handed over, and the code of each: 26 for one that had no effect,
+// 0 for every other. Zeros stand behind them.
 pub struct Passed {
     pub bench: Bench,
     pub verdict: Verdict,
     pub group: Group,
+    pub codes: [u8; 64],
 }
 
 pub enum Status {
@@ -78,6 +84,12 @@ struct Works {
     tally: Tally,
 }
 
+// What executing a group leaves: the camera, and the code of each entry.
+struct Executed {
+    camera: Camera,
+    codes: [u8; 64],
+}
+
 // The code and parameter of a verdict.
 pub fn told_of(verdict: Verdict) -> Told
     ensures { λ r. ⌜ r ≡ verdictOf verdict ⌝ }
@@ -86,6 +98,7 @@ pub fn told_of(verdict: Verdict) -> Told
         Verdict::Accepted => Told { code: 0, par: 0 },
         Verdict::Unsound => Told { code: 27, par: 0 },
         Verdict::Misread(refusal) => wire::told_of(refusal),
+        Verdict::Dark => Told { code: DARK, par: 0 },
         Verdict::Denied(denial) => Told {
             code: store::code_of(denial),
             par: 0,
@@ -202,33 +215,43 @@ fn survey(works: Works, pool: &[u32; 576]) -> Survey
 
 // A second that a bench does not pass, for it is not sound.
 fn stayed(bench: Bench) -> Passed
-    ensures { λ r. ⌜ (passedOf r ≡ stayedAt bench) × (r .group ≡ groupOf []) ⌝ }
+    ensures { λ r. ⌜ (passedOf r ≡ stayedAt bench) × (r .group ≡ groupOf []) × (r .codes ≡ codesShown []) ⌝ }
 {
     Passed {
         bench,
         verdict: Verdict::Unsound,
         group: Group::none(),
+        codes: [0; 64],
     }
 }
 
-// The camera after what a second handed over, each entry executed before the next.
-fn executed_all(camera: Camera, group: Group) -> Camera
-    ensures { λ r. ⌜ r ≡ executedAll camera (kindsIn group) ⌝ }
+// What a second handed over is executed, each entry before the next; one that is dark as its turn comes has no effect, and its code says so.
+fn executed_all(camera: Camera, group: Group) -> Executed
+    ensures { λ r. ⌜ r ≡ executedWith camera (kindsIn group) ⌝ }
 {
     let words = group.words;
     let size = store::group_size(group.count);
-    let mut camera = camera;
+    let mut next = camera;
+    let mut codes: [u8; 64] = [0; 64];
     let mut i: usize = 0;
     while i < size {
-        camera = camera.executed(store::handed_at(&words, i));
+        let kind = store::handed_at(&words, i);
+        if camera::is_dark(next.power, kind) {
+            codes[i] = DARK;
+        } else {
+            next = next.executed(kind);
+        }
         i += 1;
     }
-    camera
+    Executed {
+        camera: next,
+        codes,
+    }
 }
 
-// The camera after a second: first each series, then what was handed over is executed.
-fn camera_second(camera: Camera, group: Group) -> Camera
-    ensures { λ r. ⌜ r ≡ executedAll (cameraSecond camera) (kindsIn group) ⌝ }
+// The camera of a second: first each series, then what was handed over is executed.
+fn camera_second(camera: Camera, group: Group) -> Executed
+    ensures { λ r. ⌜ r ≡ executedWith (cameraSecond camera) (kindsIn group) ⌝ }
 {
     executed_all(camera.second(), group)
 }
@@ -290,7 +313,7 @@ impl Bench {
         }
     }
 
-    // A decoded command: 27, then 8 to 19 and 25.
+    // A decoded command: 27, then 8 to 10, 26, 11 to 19 and 25.
     pub fn carry_out(self, command: Command) -> Carried
         ensures { λ r. ⌜ outcomeOf r ≡ carryOut self command ⌝ }
     {
@@ -302,10 +325,10 @@ impl Bench {
             };
         }
         let tally = survey.tally;
-        self.carried(tally, decide(tally, command))
+        self.carried(tally, decide(self.camera.power, tally, command))
     }
 
-    // The command at the front of these bytes: 27, then 1 to 19 and 25.
+    // The command at the front of these bytes: 27, then 1 to 10, 26, 11 to 19 and 25.
     pub fn carry_out_bytes(self, bytes: &[u8]) -> Carried
         ensures { λ r. ⌜ outcomeOf r ≡ carryOutBytes self (now (bytes .entry)) ⌝ }
     {
@@ -317,13 +340,14 @@ impl Bench {
             };
         }
         let tally = survey.tally;
-        self.carried(tally, decide_bytes(tally, bytes))
+        self.carried(tally, decide_bytes(self.camera.power, tally, bytes))
     }
 
     // A second passes: 27; else the two series, then the running macro's next group.
     pub fn second(self) -> Passed
         ensures { λ r. ⌜ passedOf r ≡ secondAt self ⌝ }
         ensures { λ r. ⌜ r .group ≡ groupOf (secondAt self .handed) ⌝ }
+        ensures { λ r. ⌜ r .codes ≡ codesShown (secondAt self .codes) ⌝ }
     {
         let works = self.works();
         if !obeys(works) {
@@ -335,7 +359,9 @@ impl Bench {
         }
         let group = step.group;
         let camera = self.camera;
-        let camera = camera_second(camera, group);
+        let executed = camera_second(camera, group);
+        let camera = executed.camera;
+        let codes = executed.codes;
         let store = self.store;
         let store = Store {
             running: step.running,
@@ -347,6 +373,7 @@ impl Bench {
             bench,
             verdict: Verdict::Accepted,
             group,
+            codes,
         }
     }
 

@@ -71,7 +71,7 @@ fn run_list(works: Works, pool: &mut [u32; 576], list: &[u8], sender: u8, room: 
     let mut count: u32 = 0;
     while at < list.len() {
         let rest = &list[at..];
-        let decision = decide_bytes(works.tally, rest);
+        let decision = decide_bytes(works.camera.power, works.tally, rest);
         let told = told_by(decision);
         let end = (count as usize) * report::RECORD;
         count += 1;

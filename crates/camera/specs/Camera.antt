@@ -1,7 +1,7 @@
 -- The camera's fields: what an executed command sets, and what one second does. Macro commands leave the camera as it is.
 use Prim.Native.Nat.{ℕ, _+_, _%_}
-use mathlib.Core.Bool.{Bool, false}
-use lib.Dec.{eqb}
+use mathlib.Core.Bool.{Bool, false, not, _&&_}
+use lib.Dec.{ltb, eqb}
 use lib.Ieee.{binary32, toBits}
 use Rattle.wire.specs.declared.kinds.Kind.{Kind}
 use Rattle.camera.specs.declared.Series.{Series}
@@ -69,6 +69,27 @@ executedOf c (Kind.Run number) = c
 executedOf c (Kind.Wait seconds) = c
 executedOf c Kind.Stop = c
 executedOf c Kind.Clear = c
+
+-- 02, Q-3: "An IMAGE or TRACK with a time above 0 is refused while power is off." A time of 0 asks for no picture.
+abbrev pub asksPicture : Kind → Bool
+asksPicture (Kind.ImgPwr mode) = false
+asksPicture (Kind.ImgRegion x y) = false
+asksPicture (Kind.ImgTrack time interval) = ltb 0 time
+asksPicture (Kind.TrkAlg mode) = false
+asksPicture (Kind.TrkLoop mode) = false
+asksPicture (Kind.ImgImage time interval) = ltb 0 time
+asksPicture (Kind.TrkGoal x y) = false
+asksPicture Kind.TlmFlush = false
+asksPicture (Kind.FlushAuto mode) = false
+asksPicture (Kind.Open number) = false
+asksPicture Kind.Close = false
+asksPicture (Kind.Run number) = false
+asksPicture (Kind.Wait seconds) = false
+asksPicture Kind.Stop = false
+asksPicture Kind.Clear = false
+
+abbrev pub dark : Bool → Kind → Bool
+dark power kind = asksPicture kind && not power
 
 -- The first of the two things that a second does: each series takes its step.
 abbrev pub cameraSecond : Camera → Camera

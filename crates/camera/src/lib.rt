@@ -2,7 +2,7 @@
 // Macro commands are not the camera's: executing one leaves it as it is.
 ghost use mathlib.Core.Path.{_≡_};
 ghost use Rattle.camera.specs.Series.{freshSeries, startedOf, timeAfter, secondOf, nextHolds};
-ghost use Rattle.camera.specs.Camera.{freshCamera, withSeries, withRegion, withGoal, withModes, withFlushes, executedOf, cameraSecond};
+ghost use Rattle.camera.specs.Camera.{freshCamera, withSeries, withRegion, withGoal, withModes, withFlushes, executedOf, cameraSecond, dark};
 use wire::Kind;
 
 // A series of images: the seconds that it still runs, the interval, the seconds to the next image, the images so far.
@@ -214,5 +214,31 @@ impl Camera {
         let track = self.track;
         let next = self.with_image(image.second());
         next.with_track(track.second())
+    }
+}
+
+// Does this command ask for pictures with the power off? With a time of 0 it asks for none: it ends a series.
+pub fn is_dark(power: bool, kind: Kind) -> bool
+    ensures { λ r. ⌜ r ≡ dark power kind ⌝ }
+{
+    if power {
+        return false;
+    }
+    match kind {
+        Kind::ImgPwr(_) => false,
+        Kind::ImgRegion(_, _) => false,
+        Kind::ImgTrack(time, _) => 0 < time,
+        Kind::TrkAlg(_) => false,
+        Kind::TrkLoop(_) => false,
+        Kind::ImgImage(time, _) => 0 < time,
+        Kind::TrkGoal(_, _) => false,
+        Kind::TlmFlush => false,
+        Kind::FlushAuto(_) => false,
+        Kind::Open(_) => false,
+        Kind::Close => false,
+        Kind::Run(_) => false,
+        Kind::Wait(_) => false,
+        Kind::Stop => false,
+        Kind::Clear => false,
     }
 }

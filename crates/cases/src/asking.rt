@@ -22,25 +22,30 @@ pub fn carried(carried: Carried) -> Bench {
     next
 }
 
-// One entry of a group, behind those before it.
-fn entry(i: usize, kind: Kind) {
+// One entry of a group, behind those before it, and its code where that is not 0.
+fn entry(i: usize, kind: Kind, code: u8) {
     if 0 < i {
         say::text(b"; ");
     }
     say::kind(kind);
+    if 0 < code {
+        say::text(b" code ");
+        say::number(code as u64);
+    }
 }
 
-fn entries(words: &[u32; 192], size: usize) {
+fn entries(group: Group, codes: &[u8; 64]) {
+    let words = group.words;
+    let size = store::group_size(group.count);
     let mut i: usize = 0;
     while i < size {
-        entry(i, store::handed_at(words, i));
+        entry(i, store::handed_at(&words, i), codes[i]);
         i += 1;
     }
 }
 
-// What a second handed over: how many entries and which, or none.
-pub fn handed(group: Group) {
-    let words = group.words;
+// What a second handed over: how many entries and which, with their codes, or none.
+pub fn handed(group: Group, codes: &[u8; 64]) {
     let size = store::group_size(group.count);
     if size == 0 {
         say::text(b"none");
@@ -48,14 +53,14 @@ pub fn handed(group: Group) {
     }
     say::number(size as u64);
     say::text(b": ");
-    entries(&words, size);
+    entries(group, codes);
 }
 
 // What a second answered: the code, and what was handed over.
-fn answer(verdict: Verdict, group: Group) {
+fn answer(verdict: Verdict, group: Group, codes: &[u8; 64]) {
     code(verdict);
     say::text(b", ");
-    handed(group);
+    handed(group, codes);
 }
 
 // `second`: the code, what was handed over, and the status of the bench, which goes on.
@@ -63,8 +68,9 @@ pub fn second(b: Bench) -> Bench {
     let passed = b.second();
     let verdict = passed.verdict;
     let group = passed.group;
+    let codes = passed.codes;
     let next = passed.bench;
-    answer(verdict, group);
+    answer(verdict, group, &codes);
     telling::status(b", ", next);
     next
 }

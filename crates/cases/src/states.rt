@@ -34,10 +34,11 @@ fn second(b: Bench) {
     let passed = b.second();
     let verdict = passed.verdict;
     let group = passed.group;
+    let codes = passed.codes;
     let told = bench::told_of(verdict);
     answer(b", second ", told.code, b, passed.bench);
     say::text(b" ");
-    asking::handed(group);
+    asking::handed(group, &codes);
 }
 
 // How many records each sender has, and whether the room behind them is as it was.

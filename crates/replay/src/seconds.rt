@@ -14,32 +14,32 @@ pub struct Waited {
     pub entries: u32,
 }
 
-// An entry that was handed over, by name, and its code.
-fn handed_line(out: &mut [u8], used: usize, kind: Kind) -> usize {
-    let used = output::text(out, used, b"handed 0");
+// An entry that was handed over: its code, and what it was, by name.
+fn handed_line(out: &mut [u8], used: usize, code: u8, kind: Kind) -> usize {
+    let used = output::text(out, used, b"handed");
+    let used = output::number(out, used, code as u64);
     let used = names::kind(out, used, kind);
     output::end(out, used)
 }
 
-fn handed_lines(out: &mut [u8], used: usize, group: Group) -> usize {
+fn handed_lines(out: &mut [u8], used: usize, group: Group, codes: &[u8; 64]) -> usize {
     let words = group.words;
     let size = store::group_size(group.count);
     let mut used = used;
     let mut i: usize = 0;
     while i < size {
-        used = handed_line(out, used, store::handed_at(&words, i));
+        used = handed_line(out, used, codes[i], store::handed_at(&words, i));
         i += 1;
     }
     used
 }
 
-fn second_lines(out: &mut [u8], used: usize, verdict: Verdict, group: Group) -> usize {
+fn second_line(out: &mut [u8], used: usize, verdict: Verdict, count: u8) -> usize {
     let told = bench::told_of(verdict);
     let used = output::text(out, used, b"second");
     let used = output::number(out, used, told.code as u64);
-    let used = output::number(out, used, group.count as u64);
-    let used = output::end(out, used);
-    handed_lines(out, used, group)
+    let used = output::number(out, used, count as u64);
+    output::end(out, used)
 }
 
 // 00: `second CODE N`, and a line `handed CODE NAME ARGS` for each of the N entries.
@@ -48,7 +48,9 @@ pub fn second(state: State, out: &mut [u8]) -> State {
     let passed = bench.second();
     let verdict = passed.verdict;
     let group = passed.group;
-    let used = second_lines(out, state.used, verdict, group);
+    let codes = passed.codes;
+    let used = second_line(out, state.used, verdict, group.count);
+    let used = handed_lines(out, used, group, &codes);
     let bench = passed.bench;
     State {
         bench,

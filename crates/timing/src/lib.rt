@@ -31,20 +31,23 @@ fn with_command(sum: u64, command: Command) -> u64 {
     }
 }
 
-// An entry by its two arguments, as a command with its flag.
-fn with_entry(sum: u64, first: u32, second: u32) -> u64 {
-    mixed(mixed(mixed(sum, first as u64), second as u64), 1)
+// An entry by its two arguments, as a command with its flag, and by its code.
+fn with_entry(sum: u64, first: u32, second: u32, code: u8) -> u64 {
+    mixed(
+        mixed(mixed(mixed(sum, first as u64), second as u64), 1),
+        code as u64,
+    )
 }
 
-// How many entries a second handed over, and each of them by its words.
-fn with_group(sum: u64, group: Group) -> u64 {
+// How many entries a second handed over, and each of them by its words and its code.
+fn with_group(sum: u64, group: Group, codes: &[u8; 64]) -> u64 {
     let words = group.words;
     let size = store::group_size(group.count);
     let mut sum = mixed(sum, size as u64);
     let mut i: usize = 0;
     while i < size {
         let at = i * 3;
-        sum = with_entry(sum, words[at + 1], words[at + 2]);
+        sum = with_entry(sum, words[at + 1], words[at + 2], codes[i]);
         i += 1;
     }
     sum
@@ -303,7 +306,8 @@ fn passing(bench: Bench, sum: u64, seconds: u32) -> Later {
         let passed = bench.second();
         bench = passed.bench;
         let group = passed.group;
-        sum = with_group(sum, group);
+        let codes = passed.codes;
+        sum = with_group(sum, group, &codes);
         i += 1;
     }
     Later { bench, sum }

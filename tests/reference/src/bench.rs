@@ -1,12 +1,12 @@
-//! The bench state: judging a command against it (codes 8 to 19, 25), carrying the
-//! command out, letting a second pass, and the frame that shows the state.
+//! The bench state: judging a command against it (codes 8 to 19, 25, 26), carrying
+//! the command out, letting a second pass, and the frame that shows the state.
 
 use std::collections::VecDeque;
 
 use crate::codes::{
-    refuse_if, Refusal, CLOSE_TOO_FULL, CLOSE_TOO_LONG, CLOSE_WITHOUT_ENTRIES, MACRO_RUNS,
-    NO_ENTRY_FREE, NO_MACRO_OPEN, OPEN_OF_CLOSED, OPEN_WHILE_OPEN, TARGET_NOT_BELOW,
-    TARGET_NOT_CLOSED,
+    code_and_parameter, refuse_if, Refusal, CLOSE_TOO_FULL, CLOSE_TOO_LONG, CLOSE_WITHOUT_ENTRIES,
+    MACRO_RUNS, NO_ENTRY_FREE, NO_MACRO_OPEN, OPEN_OF_CLOSED, OPEN_WHILE_OPEN, POWER_OFF,
+    TARGET_NOT_BELOW, TARGET_NOT_CLOSED,
 };
 use crate::command::{Command, Kind};
 use crate::frame::Frame;
@@ -31,6 +31,14 @@ pub struct Series {
 pub struct Running {
     pub number: usize,
     pub ahead: VecDeque<Group>,
+}
+
+/// An entry that a second handed over: with code 0, or with the code for which it
+/// had no effect.
+#[derive(Clone, Copy, Debug, PartialEq, Eq)]
+pub struct Handed {
+    pub code: u8,
+    pub command: Command,
 }
 
 #[derive(Clone, Debug, PartialEq, Eq)]
@@ -99,15 +107,18 @@ impl Default for Bench {
 }
 
 impl Bench {
-    /// Carries out the first command of these bytes (codes 1 to 19, 25).
+    /// Carries out the first command of these bytes (codes 1 to 19, 25, 26).
     pub fn carry_out_bytes(&mut self, bytes: &[u8]) -> Result<(), Refusal> {
         let command = read_command(bytes)?;
         self.carry_out(&command)
     }
 
-    /// Carries out a decoded command (codes 8 to 19, 25).
+    /// Carries out a decoded command (codes 8 to 10, 26, then 11 to 19 and 25).
     pub fn carry_out(&mut self, command: &Command) -> Result<(), Refusal> {
         command.judge()?;
+        if !command.appended {
+            self.judge_power(command)?;
+        }
         self.judge_macro_commands(command)?;
         self.judge_runs(command)?;
         if command.appended {
@@ -116,6 +127,12 @@ impl Bench {
             self.execute(command);
         }
         Ok(())
+    }
+
+    /// Code 26, of a command that is about to be executed. It is no use to begin a
+    /// series in the dark, but one that was begun before goes on there.
+    fn judge_power(&self, command: &Command) -> Result<(), Refusal> {
+        refuse_if(command.asks_for_images() && !self.power, POWER_OFF)
     }
 
     /// Codes 11 to 13, those of CLOSE, and 16.
@@ -184,22 +201,34 @@ impl Bench {
 
     /// One second; the answer is what was handed over. The series come first,
     /// so that an image asked for in a second is taken one second later.
-    pub fn second(&mut self) -> Group {
+    pub fn second(&mut self) -> Vec<Handed> {
         self.image.pass_second();
         self.track.pass_second();
         self.hand_over()
     }
 
-    fn hand_over(&mut self) -> Group {
+    fn hand_over(&mut self) -> Vec<Handed> {
         let Some(running) = &mut self.running else {
-            return Group::new();
+            return Vec::new();
         };
-        let handed = running.ahead.pop_front().unwrap_or_default();
+        let group = running.ahead.pop_front().unwrap_or_default();
         if running.ahead.is_empty() {
             self.running = None;
         }
-        handed.iter().for_each(|command| self.execute(command));
-        handed
+        group.iter().map(|entry| self.hand_entry(entry)).collect()
+    }
+
+    /// Power is looked at as the entries before this one have left it.
+    fn hand_entry(&mut self, entry: &Command) -> Handed {
+        let answer = self.judge_power(entry);
+        if answer.is_ok() {
+            self.execute(entry);
+        }
+        let (code, _) = code_and_parameter(&answer);
+        Handed {
+            code,
+            command: *entry,
+        }
     }
 
     pub fn seconds_left(&self) -> usize {

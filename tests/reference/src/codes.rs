@@ -1,6 +1,6 @@
 //! The numbered answers of the rules, in the order in which they are tried (but
-//! 25 stands behind 15), the refusal that carries one of them with its parameter byte, and the place
-//! in a text or a list where it was found.
+//! 25 stands behind 15, and 26 between 10 and 11), the refusal that carries one of
+//! them with its parameter byte, and the place in a text or a list where it was found.
 
 pub const ACCEPTED: u8 = 0;
 pub const TOO_SHORT: u8 = 1;
@@ -28,6 +28,7 @@ pub const NOT_A_FRAME: u8 = 22;
 pub const BAD_FIELD: u8 = 23;
 pub const TOO_LITTLE_ROOM: u8 = 24;
 pub const CLOSE_TOO_FULL: u8 = 25;
+pub const POWER_OFF: u8 = 26;
 pub const UNKNOWN_NAME: u8 = 30;
 pub const MALFORMED_ARGUMENT: u8 = 31;
 pub const WRONG_NUMBER_OF_ARGUMENTS: u8 = 32;
@@ -36,7 +37,7 @@ pub const GOAL_NOT_SAID: u8 = 33;
 /// Whether a replay can show the code. 27 is left out on purpose: a state
 /// reached from a fresh bench is always sound, and replay reaches no other.
 pub fn can_be_shown(code: u8) -> bool {
-    matches!(code, ACCEPTED..=CLOSE_TOO_FULL | UNKNOWN_NAME..=GOAL_NOT_SAID)
+    matches!(code, ACCEPTED..=POWER_OFF | UNKNOWN_NAME..=GOAL_NOT_SAID)
 }
 
 /// Why something was not taken; the parameter is 0 unless the code is 8.

@@ -189,6 +189,13 @@ impl Command {
         &self.arguments[..self.kind.row().arguments.len()]
     }
 
+    /// Whether it begins a series, when it is executed. With a time of 0 it does not:
+    /// it ends the one under way.
+    pub fn asks_for_images(&self) -> bool {
+        let [time, _] = self.arguments;
+        matches!(self.kind, Kind::ImgImage | Kind::ImgTrack) && time > 0
+    }
+
     /// Codes 8, 9 and 10, in this order.
     pub fn judge(&self) -> Result<(), Refusal> {
         let row = self.kind.row();

@@ -1,11 +1,10 @@
 //! The replay program: a script of items in, a transcript of one line for each
 //! answer out. An item that is cut off changes nothing before it ends the replay.
 
-use crate::bench::Bench;
+use crate::bench::{Bench, Handed};
 use crate::codes::{code_and_parameter, Placed, Refusal};
 use crate::command::{Command, COMMANDS, TABLE};
 use crate::frame::{Frame, FRAME_BYTES};
-use crate::macros::Group;
 use crate::run::{run_lists, shown, Counts, RECORD_BYTES};
 use crate::text::{assemble, line_shown, list_text};
 use crate::typed::run_typed;
@@ -189,11 +188,11 @@ fn written_words(written: &Result<usize, Refusal>, room: &[u8]) -> String {
     }
 }
 
-/// How many entries a second handed over, and a line to each.
-fn second_lines(handed: &Group) -> String {
+/// How many entries a second handed over, and a line to each with its code.
+fn second_lines(handed: &[Handed]) -> String {
     let mut lines = format!("second 0 {}\n", handed.len());
-    for command in handed {
-        lines += &format!("handed 0 {}", command.kind.row().name);
+    for Handed { code, command } in handed {
+        lines += &format!("handed {code} {}", command.kind.row().name);
         for argument in command.own_arguments() {
             lines += &format!(" {argument}");
         }

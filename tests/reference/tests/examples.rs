@@ -67,6 +67,7 @@ fn region_512_256() {
 #[test]
 fn images_come_in_seconds_1_3_and_5() {
     let mut bench = Bench::default();
+    assert_eq!(send(&mut bench, POWER_ON), (0, 0));
     assert_eq!(send(&mut bench, IMAGE), (0, 0));
     let counts: Vec<u16> = (0..7)
         .map(|_| {
@@ -143,7 +144,8 @@ fn a_macro_that_starts_another_twice_is_written_out() {
     take(&mut bench, false, Kind::ImgPwr, 1);
     take(&mut bench, false, Kind::Run, 1);
     for second in 1..=4 {
-        let handed: Vec<Kind> = bench.second().iter().map(|it| it.kind).collect();
+        let handed = bench.second();
+        let handed: Vec<Kind> = handed.iter().map(|it| it.command.kind).collect();
         let expected: &[Kind] = match second {
             1 => &[Kind::TlmFlush],
             3 => &[Kind::ImgPwr, Kind::TlmFlush],

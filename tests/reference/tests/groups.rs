@@ -1,11 +1,10 @@
 //! Several commands in the same second: which entries a second hands over, how
 //! long a macro is by its waits, and how full a second may be.
 
-use reference::bench::Bench;
-use reference::codes::code_and_parameter;
+use reference::bench::{Bench, Handed};
+use reference::codes::{code_and_parameter, ACCEPTED};
 use reference::command::{Command, Kind};
 use reference::comparison::rng::Rng;
-use reference::macros::Group;
 
 /// An entry of a macro, in short.
 #[derive(Clone, Copy)]
@@ -27,6 +26,14 @@ fn command(part: Part) -> Command {
         Other(kind, first, second) => (kind, [first, second]),
     };
     Command::new(true, kind, arguments)
+}
+
+/// The same as a second shows it when it has executed it.
+fn handed(part: Part) -> Handed {
+    Handed {
+        code: ACCEPTED,
+        command: command(part),
+    }
 }
 
 fn execute(bench: &mut Bench, kind: Kind, argument: u32) -> u8 {
@@ -69,11 +76,11 @@ fn seconds(bench: &mut Bench, number: u32) -> Vec<Vec<u32>> {
         assert_eq!(running.number as u32, number);
         assert_eq!(bench.seconds_left(), length - all.len());
         let group = bench.second();
-        all.push(group.iter().map(|it| it.arguments[0]).collect());
+        all.push(group.iter().map(|it| it.command.arguments[0]).collect());
     }
     assert_eq!(all.len(), length);
     assert_eq!(all.iter().map(Vec::len).max(), Some(outline.fullest));
-    assert_eq!(bench.second(), Group::new());
+    assert_eq!(bench.second(), []);
     all
 }
 
@@ -91,10 +98,10 @@ fn the_two_macros_of_the_example() {
     assert_eq!(sizes(&mut bench, 0), [1, 0]);
     assert_eq!(execute(&mut bench, Kind::ImgPwr, 1), 0);
     assert_eq!(execute(&mut bench, Kind::Run, 1), 0);
-    assert_eq!(bench.second(), [command(flush)]);
+    assert_eq!(bench.second(), [handed(flush)]);
     assert_eq!(bench.second(), []);
     assert!(bench.power);
-    assert_eq!(bench.second(), [command(off), command(flush)]);
+    assert_eq!(bench.second(), [handed(off), handed(flush)]);
     assert_eq!((bench.power, bench.flushes), (false, 3));
     assert_eq!((bench.second(), bench.running), (vec![], None));
 }
@@ -402,10 +409,8 @@ fn the_entries_of_a_second_are_executed_in_order() {
     ];
     let mut bench = with_macros(&[&parts]);
     assert_eq!(execute(&mut bench, Kind::Run, 0), 0);
-    assert_eq!(
-        bench.second(),
-        parts[..6].iter().map(|it| command(*it)).collect::<Group>()
-    );
+    let first: Vec<Handed> = parts[..6].iter().map(|it| handed(*it)).collect();
+    assert_eq!(bench.second(), first);
     assert_eq!(
         (bench.power, bench.flushes, bench.corner),
         (false, 2, [9, 0])
@@ -448,7 +453,7 @@ fn commands_between_the_seconds_do_not_disturb_the_groups() {
     }
     assert_eq!(execute(&mut bench, Kind::Close, 0), 0);
     assert_eq!(execute(&mut bench, Kind::Clear, 0), 19);
-    assert_eq!(bench.second(), [command(Place(2)), command(Place(3))]);
+    assert_eq!(bench.second(), [handed(Place(2)), handed(Place(3))]);
     assert_eq!(bench.running, None);
 }
 
@@ -462,6 +467,7 @@ fn an_image_handed_over_counts_from_the_next_second() {
         Place(1),
     ];
     let mut bench = with_macros(&[&parts]);
+    assert_eq!(execute(&mut bench, Kind::ImgPwr, 1), 0);
     assert_eq!(execute(&mut bench, Kind::Run, 0), 0);
     let counts: Vec<(u16, u16)> = (0..4)
         .map(|_| {
@@ -476,6 +482,7 @@ fn an_image_handed_over_counts_from_the_next_second() {
 #[test]
 fn an_image_of_a_series_under_way_is_counted_before_the_group_supersedes_it() {
     let mut bench = with_macros(&[&[Wait(1), Other(Kind::ImgImage, 0, 1)]]);
+    assert_eq!(execute(&mut bench, Kind::ImgPwr, 1), 0);
     let image = Command::new(false, Kind::ImgImage, [9, 1]);
     assert_eq!(bench.carry_out(&image), Ok(()));
     assert_eq!(execute(&mut bench, Kind::Run, 0), 0);

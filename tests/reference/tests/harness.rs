@@ -1,7 +1,7 @@
 //! The comparison's own tools: that its scripts are what they should be, that
 //! it sees differences and codes, and that it makes a script smaller.
 
-use std::collections::BTreeSet;
+use std::collections::{BTreeMap, BTreeSet};
 
 use reference::comparison::items::{command, fresh, second, status, Item};
 use reference::comparison::rng::Rng;
@@ -69,6 +69,77 @@ fn outlines(script: &[Item]) -> Vec<Outline> {
     all
 }
 
+/// What becomes of images that are asked for, each sort with how often it occurs.
+#[derive(Default)]
+struct Images {
+    /// The sort of line and its code, where it has 26.
+    refused: BTreeMap<String, usize>,
+    /// By name, time and whether power was on, of entries handed over.
+    handed: BTreeMap<(String, u32, bool), usize>,
+    /// Seconds in which an image was counted, by whether power was on.
+    counted: BTreeMap<bool, usize>,
+}
+
+impl Images {
+    fn watch(&mut self, script: &[Item]) {
+        let mut replay = Replay::default();
+        for item in script {
+            let before = replay.bench.clone();
+            let lines = replay.item(&mut Script::new(item)).unwrap_or_default();
+            let mut power = before.power;
+            for line in lines.lines() {
+                self.line(line, &mut power);
+            }
+            if item == &second() && replay.bench.image.images != before.image.images {
+                *self.counted.entry(before.power).or_default() += 1;
+            }
+        }
+    }
+
+    fn line(&mut self, line: &str, power: &mut bool) {
+        let words: Vec<&str> = line.split(' ').collect();
+        let record = words[0] == "record" && &words[1][2..4] == "1a";
+        if record || words.get(1) == Some(&"26") {
+            *self.refused.entry(words[0].into()).or_default() += 1;
+        }
+        match words[..] {
+            ["handed", _, "img_pwr", mode] => *power = mode == "1",
+            ["handed", code, name @ ("img_image" | "img_track"), time, _] => {
+                let time = time.parse().expect("a time is a number");
+                assert_eq!(code == "26", time > 0 && !*power, "{line}");
+                let sort = (name.into(), time, *power);
+                *self.handed.entry(sort).or_default() += 1;
+            }
+            _ => {}
+        }
+    }
+}
+
+#[test]
+fn random_scripts_ask_for_images_with_power_on_and_off() {
+    let mut images = Images::default();
+    for index in 0..20 {
+        images.watch(&random::script(Rng::stream(7, index)));
+    }
+    for line in ["command", "decoded", "record", "handed"] {
+        let times = images.refused.get(line).copied().unwrap_or_default();
+        assert!(times > 100, "{line} {times}");
+    }
+    for name in ["img_image", "img_track"] {
+        for time in [0, 1, 65535] {
+            for power in [false, true] {
+                let sort = (name.into(), time, power);
+                let times = images.handed.get(&sort).copied().unwrap_or_default();
+                assert!(times > 10, "{sort:?} {times}");
+            }
+        }
+    }
+    for power in [false, true] {
+        let times = images.counted.get(&power).copied().unwrap_or_default();
+        assert!(times > 200, "{power} {times}");
+    }
+}
+
 #[test]
 fn one_fixed_script_is_too_long_and_nineteen_are_bad() {
     let transcripts: Vec<String> = fixed::scripts()
@@ -106,9 +177,18 @@ fn codes_are_counted_wherever_a_line_shows_one() {
     tally.add("frame 0 24\nframe 22\ndecoded 11 0 9\npassed 7\nstatus 27\nsecond 0 0\n");
     tally.add("assembled 30 2 0\nlisted 33 1 0\ntyped 31 1 0 0 0\nline 6162\n");
     let missing = [
-        1, 2, 3, 4, 6, 7, 8, 10, 12, 13, 14, 15, 16, 17, 18, 21, 23, 25, 32,
+        1, 2, 3, 4, 6, 7, 8, 10, 12, 13, 14, 15, 16, 17, 18, 21, 23, 25, 26, 32,
     ];
+    // 0 did not occur beside an entry.
+    assert_eq!(tally.missing(), [&[0], &missing[..]].concat());
+    tally.add("second 0 2\nhanded 0 tlm_flush\nhanded 26 img_image 1 1\n");
     assert_eq!(tally.missing(), missing);
+    tally.add("command 26 0\n");
+    let missing: Vec<u8> = missing.into_iter().filter(|code| *code != 26).collect();
+    assert_eq!(tally.missing(), missing);
+    let mut answers_only = Tally::default();
+    answers_only.add("command 26 0\n");
+    assert!(answers_only.missing().contains(&26));
     assert_eq!(grouped(1_234_567), "1,234,567");
 }
 

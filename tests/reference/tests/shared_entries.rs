@@ -50,7 +50,7 @@ fn store(bench: &mut Bench, number: u32, count: u32) {
 /// Lets a second pass, which must hand over the entries from this place up to the
 /// next WAIT or the end, in order.
 fn second_hands_over(bench: &mut Bench, number: u32, start: u32, count: u32) {
-    let handed = bench.second().into_iter().map(|it| it.arguments);
+    let handed = bench.second().into_iter().map(|it| it.command.arguments);
     let end = count.min(start + EACH - 1);
     let expected = (start..end).map(|place| [number, place]);
     assert!(handed.eq(expected), "macro {number} from entry {start}");

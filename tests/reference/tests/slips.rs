@@ -53,8 +53,10 @@ fn codes_2_and_3_end_their_list() {
 #[test]
 fn a_time_of_65535_stays() {
     let mut bench = Bench::default();
+    let power_on = Command::new(false, Kind::ImgPwr, [1, 0]);
     let image = Command::new(false, Kind::ImgImage, [65535, 1]);
     let track = Command::new(false, Kind::ImgTrack, [65534, 1]);
+    assert_eq!(bench.carry_out(&power_on), Ok(()));
     assert_eq!(bench.carry_out(&image), Ok(()));
     assert_eq!(bench.carry_out(&track), Ok(()));
     (0..66_000).for_each(|_| assert_eq!(bench.second(), []));
@@ -79,6 +81,7 @@ fn no_not_a_number_is_a_goal() {
 fn a_macro_s_image_is_counted_one_second_later() {
     let mut bench = Bench::default();
     let sent = [
+        (false, Kind::ImgPwr, [1, 0]),
         (false, Kind::Open, [0, 0]),
         (true, Kind::ImgImage, [1, 1]),
         (true, Kind::Wait, [1, 0]),

@@ -15,6 +15,9 @@ enum-known-verdict c = search needs
 told-of-requires : tie.Need-told-of-requires
 told-of-requires c κs = search needs
 
+enum-told-3 : tie.Need-enum-told-3
+enum-told-3 c = search needs
+
 enum-known-verdict-2 : tie.Need-enum-known-verdict-2
 enum-known-verdict-2 c = search needs
 
@@ -31,7 +34,10 @@ returns-3 : tie.Need-returns-3
 returns-3 c = search needs
 
 returns-4 : tie.Need-returns-4
-returns-4 c = rw (c .code-of .ensures, c .before .before .verdict2 .given .1)
+returns-4 c = rw (c .enum-told3 .given .1)
+
+returns-5 : tie.Need-returns-5
+returns-5 c = rw (c .code-of .ensures, c .before .before .verdict2 .given .1)
 
 pub told-of-spec : {M : Type 1} → statement M
 told-of-spec =
@@ -41,9 +47,11 @@ told-of-spec =
     enum-told-2
     enum-known-verdict
     told-of-requires
+    enum-told-3
     enum-known-verdict-2
     code-of-requires
     returns
     returns-2
     returns-3
-    returns-4)
+    returns-4
+    returns-5)

@@ -91,7 +91,7 @@ fn run_lines(works: Works, pool: &mut [u32; 576], text: &[u8], room: &mut [u8]) 
             Line::Blank => continue,
             Line::Bad(_) => continue,
             Line::Typed(command) => {
-                let decision = permitted(works.tally, command);
+                let decision = permitted(works.camera.power, works.tally, command);
                 let told = told_by(decision);
                 let end = (count as usize) * report::RECORD;
                 count += 1;

@@ -8,10 +8,10 @@ use Rattle.timing.proofs.with_group.Statement.{statement}
 use Rattle.timing.proofs.with_group.Tie as tie
 
 abbrev Inv-loop : tie.InvT-loop
-Inv-loop sum words size sum₀ i₀ sum' i = (i ≤ size) × (size ≤ 64) × (length words ≡ 192)
+Inv-loop sum codes words size sum₀ i₀ sum' i = (i ≤ size) × (size ≤ 64) × (length words ≡ 192)
 
 abbrev μ-loop : tie.MeasureT-loop
-μ-loop sum words size sum₀ i₀ sum' i = size - i
+μ-loop sum codes words size sum₀ i₀ sum' i = size - i
 
 group-size-requires : tie.Need-group-size-requires Inv-loop μ-loop
 group-size-requires c κs = search needs
@@ -42,6 +42,9 @@ mul-with-entry-2 c = search needs
 
 array-read-with-entry-2 : tie.Need-array-read-with-entry-2 Inv-loop μ-loop
 array-read-with-entry-2 c = search needs
+
+element-copy-out-with-entry : tie.Need-element-copy-out-with-entry Inv-loop μ-loop
+element-copy-out-with-entry c = search needs
 
 with-entry-requires : tie.Need-with-entry-requires Inv-loop μ-loop
 with-entry-requires c κs = search needs
@@ -74,6 +77,7 @@ with-group-spec =
     add-with-entry-2
     mul-with-entry-2
     array-read-with-entry-2
+    element-copy-out-with-entry
     with-entry-requires
     add-i
     loop-less

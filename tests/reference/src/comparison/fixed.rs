@@ -2,7 +2,9 @@
 //! how these are packed into scripts, and the scripts that end badly.
 
 use super::items::{fresh, read, status, Item};
-use super::{fixed_bench, fixed_groups, fixed_lines, fixed_pool, fixed_text, fixed_wire};
+use super::{
+    fixed_bench, fixed_dark, fixed_groups, fixed_lines, fixed_pool, fixed_text, fixed_wire,
+};
 use crate::replay::LONGEST_SCRIPT;
 
 /// Scripts are filled up to here; the rest is slack for one more item.
@@ -13,6 +15,7 @@ pub fn scripts() -> Vec<Vec<Item>> {
     let mut episodes = fixed_bench::episodes();
     episodes.extend(fixed_pool::episodes());
     episodes.extend(fixed_groups::episodes());
+    episodes.extend(fixed_dark::episodes());
     episodes.extend(fixed_wire::episodes());
     episodes.extend(fixed_lines::episodes());
     episodes.extend(fixed_text::episodes());

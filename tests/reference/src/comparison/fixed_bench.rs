@@ -7,7 +7,7 @@ use crate::macros::{LONGEST_MACRO, MACROS};
 use crate::wire::bytes_of;
 
 pub(super) const TOP: u32 = MACROS as u32 - 1;
-const FOREVER: u32 = 65535;
+pub(super) const FOREVER: u32 = 65535;
 
 pub fn episodes() -> Vec<Vec<Item>> {
     let mut episodes = vec![
@@ -31,7 +31,7 @@ fn words(words: &[u32]) -> Item {
     command(&bytes_of(words))
 }
 
-fn series(kind: Kind, time: u32, interval: u32) -> Item {
+pub(super) fn series(kind: Kind, time: u32, interval: u32) -> Item {
     command(&raw(false, kind, [time, interval]))
 }
 
@@ -68,6 +68,7 @@ fn flush_wraps() -> Vec<Item> {
 /// time one below it runs out.
 fn endless(interval: u32, track_time: u32) -> Vec<Item> {
     let mut items = vec![
+        now(Kind::ImgPwr, 1),
         series(Kind::ImgImage, FOREVER, interval),
         series(Kind::ImgTrack, track_time, 1),
         passed(65533),
@@ -79,7 +80,7 @@ fn endless(interval: u32, track_time: u32) -> Vec<Item> {
 }
 
 fn series_table() -> Vec<Item> {
-    let mut items = Vec::new();
+    let mut items = vec![now(Kind::ImgPwr, 1)];
     for time in 0..=6 {
         for interval in 1..=4 {
             items.push(series(Kind::ImgImage, time, interval));
@@ -92,7 +93,7 @@ fn series_table() -> Vec<Item> {
 
 /// A series asked for again while an earlier one still lasts.
 fn superseded() -> Vec<Item> {
-    let mut items = Vec::new();
+    let mut items = vec![now(Kind::ImgPwr, 1)];
     for pause in 0..6 {
         for (time, interval) in [(9, 4), (4, 3), (0, 7), (FOREVER, 2)] {
             items.push(series(Kind::ImgImage, time, interval));
@@ -108,6 +109,7 @@ fn superseded() -> Vec<Item> {
 fn image_from_macro() -> Vec<Item> {
     let entry = |kind, time, interval| command(&raw(true, kind, [time, interval]));
     let mut items = vec![
+        now(Kind::ImgPwr, 1),
         now(Kind::Open, 2),
         entry(Kind::ImgImage, 3, 1),
         entry(Kind::ImgTrack, 1, 1),

@@ -2,18 +2,16 @@
 //! groups around the fullest one in one macro and over several, lengths around the
 //! longest by waits, and nests that come to millions of entries.
 
-use super::fixed_bench::TOP;
-use super::items::{
-    append, command, decoded, now, passed, raw, run, second, status, typed, watched, Item,
-};
+use super::fixed_bench::{series, TOP};
+use super::items::{append, decoded, now, passed, raw, run, second, status, typed, watched, Item};
 use crate::command::{Kind, TABLE};
 use crate::macros::{FULLEST_SECOND, LONGEST_MACRO};
 
-const REPORT_ROOM: u16 = 8192;
+pub(super) const REPORT_ROOM: u16 = 8192;
 const LONGEST: u32 = LONGEST_MACRO as u32;
 
 /// Entries of a macro, as their bytes.
-type Entries = Vec<u8>;
+pub(super) type Entries = Vec<u8>;
 
 pub fn episodes() -> Vec<Vec<Item>> {
     let mut episodes = vec![example(), waits(), edges(), in_order(), images()];
@@ -31,37 +29,37 @@ pub fn episodes() -> Vec<Vec<Item>> {
 }
 
 /// So many entries that tell their places.
-fn places(count: usize) -> Entries {
+pub(super) fn places(count: usize) -> Entries {
     let places = 0..count as u32;
     places
         .flat_map(|place| raw(true, Kind::ImgRegion, [place, 1]))
         .collect()
 }
 
-fn flush() -> Entries {
+pub(super) fn flush() -> Entries {
     raw(true, Kind::TlmFlush, [0; 2])
 }
 
-fn power(mode: u32) -> Entries {
+pub(super) fn power(mode: u32) -> Entries {
     raw(true, Kind::ImgPwr, [mode, 0])
 }
 
-fn wait(seconds: u32) -> Entries {
+pub(super) fn wait(seconds: u32) -> Entries {
     raw(true, Kind::Wait, [seconds, 0])
 }
 
-fn starts(number: u32, times: usize) -> Entries {
+pub(super) fn starts(number: u32, times: usize) -> Entries {
     raw(true, Kind::Run, [number, 0]).repeat(times)
 }
 
-fn stored(number: u32, entries: &[u8]) -> Vec<u8> {
+pub(super) fn stored(number: u32, entries: &[u8]) -> Vec<u8> {
     let open = raw(false, Kind::Open, [number, 0]);
     let close = raw(false, Kind::Close, [0; 2]);
     [&open, entries, &close].concat()
 }
 
 /// Macros from 0 on in one list, the last of them then started.
-fn nest(macros: &[Entries]) -> Vec<Item> {
+pub(super) fn nest(macros: &[Entries]) -> Vec<Item> {
     let lists = (0..).zip(macros);
     let lists: Vec<u8> = lists.flat_map(|(number, it)| stored(number, it)).collect();
     let last = macros.len() as u32 - 1;
@@ -73,7 +71,7 @@ fn nest(macros: &[Entries]) -> Vec<Item> {
 }
 
 /// The same on a bench that has no macro, watched for so many seconds.
-fn watched_nest(macros: &[Entries], seconds: usize) -> Vec<Item> {
+pub(super) fn watched_nest(macros: &[Entries], seconds: usize) -> Vec<Item> {
     let mut items = vec![now(Kind::Stop, 0), now(Kind::Clear, 0)];
     items.extend(nest(macros));
     items.extend(watched(seconds));
@@ -148,7 +146,7 @@ fn edges() -> Vec<Item> {
 fn in_order() -> Vec<Item> {
     let modes = [power(1), flush(), power(0), places(3), flush(), power(1)].concat();
     let acting = TABLE[..Kind::Open as usize].iter();
-    let acting = acting.flat_map(|row| [[1, 2], [0, 3]].map(|it| raw(true, row.kind, it)));
+    let acting = acting.flat_map(|row| [[0, 2], [1, 3]].map(|it| raw(true, row.kind, it)));
     let all = acting.collect::<Vec<Entries>>().concat();
     let entries = [modes, wait(1), power(0), wait(2), all, wait(1), power(1)].concat();
     watched_nest(&[entries], 7)
@@ -160,7 +158,7 @@ fn images() -> Vec<Item> {
     let track = |time, interval| raw(true, Kind::ImgTrack, [time, interval]);
     let begun = [image(9, 4), track(3, 1), image(4, 1), wait(2)].concat();
     let again = [track(2, 2), image(0, 1), image(3, 2), wait(1), image(0, 9)].concat();
-    let mut items = vec![command(&raw(false, Kind::ImgImage, [3, 1]))];
+    let mut items = vec![now(Kind::ImgPwr, 1), series(Kind::ImgImage, 3, 1)];
     items.extend(watched_nest(&[[begun, again].concat()], 9));
     items
 }

@@ -73,9 +73,11 @@ fn edge_sets(row: &Row) -> Vec<[u32; 2]> {
     sets
 }
 
-/// Each edge sent to a bench with no macro, then appended to one and handed over.
+/// Each edge sent to a bench with no macro, then appended to one and handed over, all
+/// with power on, so that nothing but the edge can be refused.
 fn limits(row: &Row) -> [Vec<Item>; 2] {
-    let (mut alone, mut stored) = (Vec::new(), vec![now(Kind::Open, 5)]);
+    let mut alone = vec![now(Kind::ImgPwr, 1)];
+    let mut stored = vec![now(Kind::ImgPwr, 1), now(Kind::Open, 5)];
     for set in edge_sets(row) {
         for appended in [false, true] {
             let bytes = raw(appended, row.kind, set);

@@ -1,6 +1,7 @@
 //! Whole inputs for the programs for typed lists: fixed ones for each sort of
 //! answer and each limit, then random ones.
 
+use super::fixed_dark;
 use super::fixed_wire::{faulty, flush};
 use super::items::raw;
 use super::rng::Rng;
@@ -29,6 +30,8 @@ pub fn texts(rng: &mut Rng, random: usize) -> Vec<Vec<u8>> {
         "\n\nwait 1\n",
         "stop\r\n",
         "\0\n",
+        fixed_dark::TEXT,
+        "img_pwr 0\nimg_track 1 1\nimg_track 1 0\n",
     ];
     let mut all: Vec<Vec<u8>> = small.iter().map(|text| text.as_bytes().to_vec()).collect();
     all.extend([512, 513].map(|times| b"tlm_flush\n".repeat(times)));

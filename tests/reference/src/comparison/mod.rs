@@ -4,6 +4,7 @@
 pub mod damage;
 pub mod fixed;
 pub mod fixed_bench;
+pub mod fixed_dark;
 pub mod fixed_groups;
 pub mod fixed_lines;
 pub mod fixed_pool;
@@ -14,6 +15,7 @@ pub mod items;
 pub mod options;
 pub mod program;
 pub mod random;
+mod random_dark;
 mod random_groups;
 mod random_pool;
 mod random_text;

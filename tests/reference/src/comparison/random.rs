@@ -36,6 +36,7 @@ pub fn script(rng: Rng) -> Vec<Item> {
         bytes: 0,
     };
     while maker.bytes < SCRIPT_AIM {
+        maker.first_light();
         maker.episode();
         maker.push(fresh());
     }
@@ -64,7 +65,7 @@ impl Maker {
     }
 
     fn episode(&mut self) {
-        match self.rng.below(159) {
+        match self.rng.below(171) {
             0..=29 => self.macros_episode(),
             30..=49 => self.chatter_episode(),
             50..=59 => self.decoded_episode(),
@@ -79,6 +80,7 @@ impl Maker {
             129..=134 => self.pool_episode(),
             135..=154 => self.groups_episode(),
             155..=157 => self.many_runs_episode(),
+            158..=169 => self.dark_episode(),
             _ => self.long_text_episode(),
         }
     }
@@ -194,8 +196,12 @@ impl Maker {
         (empty.count(), ahead.front().map_or(0, Vec::len))
     }
 
-    /// One or two commands from outside, most of them whole.
+    /// One or two commands from outside, most of them whole; now and then power and
+    /// images.
     pub(super) fn disturb(&mut self) {
+        if self.rng.percent(6) {
+            self.switch_and_ask();
+        }
         for _ in 0..self.rng.within(1, 2) {
             let bytes = self.likely_command();
             let damage = self.rng.percent(15);
@@ -219,6 +225,10 @@ impl Maker {
 
     /// Flag, kind and arguments of such a command.
     pub(super) fn likely(&mut self, bad_percent: usize) -> (bool, Kind, [u32; 2]) {
+        if self.rng.percent(6) {
+            let one = self.light_or_image(false);
+            return (one.appended, one.kind, one.arguments);
+        }
         let kind = any_kind(&mut self.rng);
         let mut values = arguments(&mut self.rng, kind, bad_percent);
         if kind == Kind::Run && self.rng.percent(80) {
@@ -250,7 +260,9 @@ impl Maker {
     fn decoded_episode(&mut self) {
         for _ in 0..self.rng.within(20, 120) {
             let kind = any_kind(&mut self.rng);
-            let mut values = arguments(&mut self.rng, kind, 40);
+            // Power is to be switched often enough for the images.
+            let bad_percent = if kind == Kind::ImgPwr { 10 } else { 40 };
+            let mut values = arguments(&mut self.rng, kind, bad_percent);
             if kind == Kind::Run && self.rng.percent(50) {
                 values[0] = self.likely_number();
             }

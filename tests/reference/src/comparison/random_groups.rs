@@ -12,7 +12,7 @@ use crate::outline::Outline;
 use crate::replay::Script;
 
 /// What is to be sent; the shadow tries each command out as it is planned.
-type Plan = Vec<Command>;
+pub(super) type Plan = Vec<Command>;
 
 impl Maker {
     /// Macros in rising order, the last of them aimed at a limit, then runs.
@@ -68,7 +68,7 @@ impl Maker {
     }
 
     /// Opens the macro, fills it as planned and closes it, by any sort of item.
-    fn send_planned(&mut self, number: usize, fill: impl FnOnce(&mut Self, &mut Plan)) {
+    pub(super) fn send_planned(&mut self, number: usize, fill: impl FnOnce(&mut Self, &mut Plan)) {
         let before = self.shadow.clone();
         let mut plan = Plan::new();
         let open = Command::new(false, Kind::Open, [number as u32, 0]);
@@ -82,7 +82,7 @@ impl Maker {
         }
     }
 
-    fn plan(&mut self, plan: &mut Plan, planned: Command) {
+    pub(super) fn plan(&mut self, plan: &mut Plan, planned: Command) {
         let item = command(&bytes_of(&planned));
         self.shadow.item(&mut Script::new(&item));
         plan.push(planned);
@@ -127,7 +127,7 @@ impl Maker {
     }
 
     /// So many times in a hundred, one WAIT or several in a row.
-    fn some_waits(&mut self, plan: &mut Plan, chance: usize) {
+    pub(super) fn some_waits(&mut self, plan: &mut Plan, chance: usize) {
         while self.rng.percent(chance) {
             let most = self.rng.pick(&[1, 3, 3, 120]);
             let seconds = self.rng.within(1, most);
@@ -136,7 +136,7 @@ impl Maker {
     }
 
     /// The closed macros of which this is true.
-    fn closed_ones(&self, wanted: impl Fn(Outline) -> bool) -> Vec<usize> {
+    pub(super) fn closed_ones(&self, wanted: impl Fn(Outline) -> bool) -> Vec<usize> {
         let macros = &self.shadow.bench.macros;
         let closed = (0..MACROS).filter(|number| macros.closed[*number]);
         closed

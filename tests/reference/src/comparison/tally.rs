@@ -3,12 +3,16 @@
 
 use std::collections::BTreeMap;
 
-use crate::codes::can_be_shown;
+use crate::codes::{can_be_shown, ACCEPTED, POWER_OFF};
 
-/// How often each code occurred.
+/// The codes that an entry can have as a second shows it.
+const HANDED: [u8; 2] = [ACCEPTED, POWER_OFF];
+
+/// How often each code occurred: as an answer, and beside entries handed over.
 #[derive(Clone, Debug, Default)]
 pub struct Tally {
     counts: BTreeMap<u8, u64>,
+    handed: BTreeMap<u8, u64>,
 }
 
 impl Tally {
@@ -16,23 +20,36 @@ impl Tally {
         for code in transcript.lines().flat_map(codes_in) {
             *self.counts.entry(code).or_default() += 1;
         }
+        for code in transcript.lines().filter_map(handed_code) {
+            *self.handed.entry(code).or_default() += 1;
+        }
     }
 
-    /// The codes that could have occurred and did not.
+    /// The codes that could have occurred and did not, be it as an answer or beside an
+    /// entry handed over.
     pub fn missing(&self) -> Vec<u8> {
+        let lacking = |counts: &BTreeMap<u8, u64>, code| !counts.contains_key(&code);
         codes()
-            .filter(|code| !self.counts.contains_key(code))
+            .filter(|code| {
+                lacking(&self.counts, *code)
+                    || HANDED.contains(code) && lacking(&self.handed, *code)
+            })
             .collect()
     }
 
     pub fn table(&self) -> String {
-        let mut table = String::from("code occurred\n");
-        for code in codes() {
-            let count = self.counts.get(&code).copied();
-            table += &format!("{code:4} {:>8}\n", grouped(count.unwrap_or_default()));
-        }
-        table
+        rows("code occurred", codes(), &self.counts)
+            + &rows("code beside an entry", HANDED, &self.handed)
     }
+}
+
+fn rows(heading: &str, codes: impl IntoIterator<Item = u8>, counts: &BTreeMap<u8, u64>) -> String {
+    let mut rows = format!("{heading}\n");
+    for code in codes {
+        let count = counts.get(&code).copied().unwrap_or_default();
+        rows += &format!("{code:4} {:>8}\n", grouped(count));
+    }
+    rows
 }
 
 fn codes() -> impl Iterator<Item = u8> {
@@ -51,6 +68,12 @@ fn codes_in(line: &str) -> Vec<u8> {
     };
     let found = places.iter().filter_map(|place| words.get(*place));
     found.filter_map(|word| word.parse().ok()).collect()
+}
+
+/// The code beside an entry that was handed over.
+fn handed_code(line: &str) -> Option<u8> {
+    let (code, _) = line.strip_prefix("handed ")?.split_once(' ')?;
+    code.parse().ok()
 }
 
 /// The code is the second byte of a record.

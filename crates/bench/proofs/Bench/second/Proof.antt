@@ -10,7 +10,7 @@ use Rattle.bench.specs.declared.Bench.{Bench}
 use Rattle.bench.specs.Status.{rulesHold, benchSound}
 use Rattle.bench.proofs.Sound.{good-store}
 use Rattle.bench.proofs.Shapes.{Typed, shaped}
-use Rattle.bench.proofs.Judging.{own-bench, no-rules, no-second, no-step, stayed-told, group-passed, second-passed}
+use Rattle.bench.proofs.Judging.{own-bench, no-rules, no-second, no-step, stayed-told, group-passed, codes-passed, second-passed}
 use Rattle.bench.proofs.Bench.second.Statement.{statement}
 use Rattle.bench.proofs.Bench.second.Tie as tie
 
@@ -66,16 +66,22 @@ says b typed sound = handed-kinds (b .store) (good-store b (record { sound = sou
 
 returns-3 : tie.Need-returns-3
 returns-3 c =
-    let camera = c .before .before .before .before in
+    let camera = c .before .before .before .before .before .before in
     let sound = camera .before .before .before in
     let step = sound .before .before in
     let obeys = rules step .before in
     let start = obeys .before .before in
     let b = start .args .t1 in
     let holds = rules-told obeys ∙ not-false _ (rules step .if1 .left) in
-    let on = not-false _ (sound .if2 .left) in (
-      second-passed b (step .second .result) holds (store-told step) on (says b (start .good .0)) (camera .camera-second .result) (camera .camera-second .ensures),
-      group-passed b (step .second .result) holds (store-told step) on (says b (start .good .0)),
+    let on = not-false _ (sound .if2 .left) in
+    let stepped = step .second .result in
+    let known = says b (start .good .0) in
+    let done = camera .camera-second .result in (
+      second-passed b stepped holds (store-told step) on known done (camera .camera-second .ensures),
+      (
+        group-passed b stepped holds (store-told step) on known,
+        codes-passed b stepped holds (store-told step) on known done (camera .camera-second .ensures),
+      ),
     )
 
 pub second-spec : {M : Type 1} → statement M

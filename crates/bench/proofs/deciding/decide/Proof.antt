@@ -1,4 +1,4 @@
--- `deciding::decide` meets its contract: what `judge` refuses is refused, else the tally decides.
+-- `deciding::decide` meets its contract: what `judge` refuses is refused, else power and tally decide.
 use borrow.Author.Needs.{needs}
 use mathlib.Core.Path.{_∙_}
 use Rattle.bench.proofs.Decisions.{judged-refused, judged-passed}
@@ -22,13 +22,13 @@ returns c =
     let told = c .before .before .before in
     let start = told .before .args in
     let refusal = c .before .refusal .given in
-    judged-refused (start .tally) (start .command) (refusal .0 .0) (rw (refusal .1) at (told .judge .ensures))
+    judged-refused (start .power) (start .tally) (start .command) (refusal .0 .0) (rw (refusal .1) at (told .judge .ensures))
 
 returns-2 : tie.Need-returns-2
 returns-2 c =
     let told = c .before .before .before in
     let start = told .before .args in
-    c .permitted .ensures ∙ judged-passed (start .tally) (start .command) (rw (c .before .enum-told .given .1) at (told .judge .ensures))
+    c .permitted .ensures ∙ judged-passed (start .power) (start .tally) (start .command) (rw (c .before .enum-told .given .1) at (told .judge .ensures))
 
 pub decide-spec : {M : Type 1} → statement M
 decide-spec =

@@ -1,4 +1,4 @@
--- `deciding::decide_bytes` meets its contract: what the reader refuses is refused, else the tally decides.
+-- `deciding::decide_bytes` meets its contract: what the reader refuses is refused, else power and tally decide.
 use borrow.Author.Needs.{needs}
 use mathlib.Core.Path.{_∙_}
 use Rattle.bench.proofs.Decisions.{read-refused, read-passed}
@@ -22,7 +22,7 @@ returns c =
     let told = c .before .before .before in
     let start = told .before .before .args in
     let refusal = c .before .refusal .given in
-    read-refused (start .tally) (start .bytes .now) (refusal .0 .0) (rw (refusal .1) at (told .read-command .ensures))
+    read-refused (start .power) (start .tally) (start .bytes .now) (refusal .0 .0) (rw (refusal .1) at (told .read-command .ensures))
 
 returns-2 : tie.Need-returns-2
 returns-2 c =
@@ -30,7 +30,7 @@ returns-2 c =
     let start = told .before .before .args in
     let command = c .before .before .command .given in
     c .permitted .ensures
-    ∙ read-passed (start .tally) (start .bytes .now) (command .0 .0) (rw (command .1) at (told .read-command .ensures))
+    ∙ read-passed (start .power) (start .tally) (start .bytes .now) (command .0 .0) (rw (command .1) at (told .read-command .ensures))
 
 pub decide-bytes-spec : {M : Type 1} → statement M
 decide-bytes-spec =

@@ -1,20 +1,27 @@
--- `entries` is safe and ends. The loop counts up to the number of entries.
+-- `entries` is safe and ends. The loop counts up to the number of entries, each of which has a code.
 use Prim.Native.Nat.{_≤_, _-_}
+use native.Mathlib.Omega.{arith}
 use borrow.Author.Needs.{needs}
 use Rattle.cases.proofs.asking.entries.Statement.{statement}
 use Rattle.cases.proofs.asking.entries.Tie as tie
 
 abbrev Inv-loop : tie.InvT-loop
-Inv-loop words size i₀ i = i ≤ size
+Inv-loop codes words size i₀ i = (i ≤ size) × (size ≤ 64)
 
 abbrev μ-loop : tie.MeasureT-loop
-μ-loop words size i₀ i = size - i
+μ-loop codes words size i₀ i = size - i
+
+group-size-requires : tie.Need-group-size-requires Inv-loop μ-loop
+group-size-requires c κs = search needs
 
 loop-holds : tie.Need-loop-holds Inv-loop μ-loop
-loop-holds c = search needs
+loop-holds c = (omega arith, omega (arith, c .group-size .ensures))
 
 handed-at-requires : tie.Need-handed-at-requires Inv-loop μ-loop
 handed-at-requires c κs = search needs
+
+element-copy-out-entry : tie.Need-element-copy-out-entry Inv-loop μ-loop
+element-copy-out-entry c = search needs
 
 entry-requires : tie.Need-entry-requires Inv-loop μ-loop
 entry-requires c κs = search needs
@@ -37,8 +44,10 @@ entries-spec =
     (tie.spec
     Inv-loop
     μ-loop
+    group-size-requires
     loop-holds
     handed-at-requires
+    element-copy-out-entry
     entry-requires
     add-i
     loop-less

@@ -1,22 +1,26 @@
--- `handed_lines` is safe and ends. The loop counts up to the number of entries; the buffer keeps its length.
+-- `handed_lines` is safe and ends. The loop counts up to the number of entries, each of which has a code; the buffer keeps its length.
 use Prim.Native.Nat.{_≤_, _-_}
 use mathlib.Core.Path.{_≡_}
+use native.Mathlib.Omega.{arith}
 use lib.ListN.{length}
 use borrow.Author.Needs.{needs}
 use Rattle.replay.proofs.seconds.handed_lines.Statement.{statement}
 use Rattle.replay.proofs.seconds.handed_lines.Tie as tie
 
 abbrev Inv-loop : tie.InvT-loop
-Inv-loop out₀ used words size used₀ i₀ out used' i = (i ≤ size) × (length out ≡ length out₀)
+Inv-loop out₀ used codes words size used₀ i₀ out used' i = (i ≤ size) × (size ≤ 64) × (length out ≡ length out₀)
 
 abbrev μ-loop : tie.MeasureT-loop
-μ-loop out₀ used words size used₀ i₀ out used' i = size - i
+μ-loop out₀ used codes words size used₀ i₀ out used' i = size - i
 
 group-size-requires : tie.Need-group-size-requires Inv-loop μ-loop
 group-size-requires c κs = search needs
 
 loop-holds : tie.Need-loop-holds Inv-loop μ-loop
-loop-holds c = search needs
+loop-holds c = (omega arith, omega (arith, c .group-size .ensures), search needs)
+
+element-copy-out-handed-line : tie.Need-element-copy-out-handed-line Inv-loop μ-loop
+element-copy-out-handed-line c = search needs
 
 handed-at-requires : tie.Need-handed-at-requires Inv-loop μ-loop
 handed-at-requires c κs = search needs
@@ -47,6 +51,7 @@ handed-lines-spec =
     μ-loop
     group-size-requires
     loop-holds
+    element-copy-out-handed-line
     handed-at-requires
     handed-line-requires
     add-i
