@@ -1,6 +1,5 @@
 // What becomes of a command, by the power and the tally of the macros alone: it is accepted, or refused with a verdict.
 ghost use mathlib.Core.Path.{_≡_};
-ghost use Rattle.bench.specs.Carry.{row26};
 ghost use Rattle.bench.specs.Steps.{decisionOf, permittedBy, decidedBy, decidedIn};
 use super::Verdict;
 use super::told_of;
@@ -26,22 +25,12 @@ pub fn told_by(decision: Decision) -> Told
     }
 }
 
-// Row 26: an executed command that asks for pictures with the power off.
-fn lacks_power(power: bool, command: Command) -> bool
-    ensures { λ r. ⌜ r ≡ row26 power (command .flag) (command .kind) ⌝ }
-{
-    if command.flag {
-        return false;
-    }
-    let kind = command.kind;
-    camera::is_dark(power, kind)
-}
-
-// Codes 26, 11 to 19 and 25, on a command that passed the earlier ones.
+// Codes 26, 11 to 19 and 25, on a command that passed the earlier ones. The power is asked first: mostly it is on, and then row 26 needs no more.
 pub fn permitted(power: bool, tally: Tally, command: Command) -> Decision
     ensures { λ r. ⌜ decisionOf r ≡ permittedBy power tally command ⌝ }
 {
-    if lacks_power(power, command) {
+    let kind = command.kind;
+    if !power && !command.flag && camera::is_dark(power, kind) {
         return Decision::Refused(Verdict::Dark);
     }
     match tally.permits(command) {

@@ -59,12 +59,12 @@ pub struct Carried {
 }
 
 // A second passed: the bench afterwards, the verdict, the group of entries that was handed over, and the code of each: 26 for one that had no effect,
-// 0 for every other. Zeros stand behind them.
+// 0 for every other. Zeros stand behind them. (The codes stand before the group, for behind it the compiler copies the pool once more.)
 pub struct Passed {
     pub bench: Bench,
     pub verdict: Verdict,
-    pub group: Group,
     pub codes: [u8; 64],
+    pub group: Group,
 }
 
 pub enum Status {
@@ -220,8 +220,8 @@ fn stayed(bench: Bench) -> Passed
     Passed {
         bench,
         verdict: Verdict::Unsound,
-        group: Group::none(),
         codes: [0; 64],
+        group: Group::none(),
     }
 }
 
@@ -372,8 +372,8 @@ impl Bench {
         Passed {
             bench,
             verdict: Verdict::Accepted,
-            group,
             codes,
+            group,
         }
     }
 

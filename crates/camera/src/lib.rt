@@ -1,6 +1,8 @@
 // The camera's fields and its two series of images: what an executed command sets, and what a second does.
 // Macro commands are not the camera's: executing one leaves it as it is.
 ghost use mathlib.Core.Path.{_≡_};
+ghost use mathlib.Core.Bool.{not, _&&_};
+ghost use lib.Dec.{ltb};
 ghost use Rattle.camera.specs.Series.{freshSeries, startedOf, timeAfter, secondOf, nextHolds};
 ghost use Rattle.camera.specs.Camera.{freshCamera, withSeries, withRegion, withGoal, withModes, withFlushes, executedOf, cameraSecond, dark};
 use wire::Kind;
@@ -217,20 +219,27 @@ impl Camera {
     }
 }
 
-// Does this command ask for pictures with the power off? With a time of 0 it asks for none: it ends a series.
-pub fn is_dark(power: bool, kind: Kind) -> bool
-    ensures { λ r. ⌜ r ≡ dark power kind ⌝ }
+// Are pictures asked for so long, with the power off? With a time of 0 none are: it ends a series.
+fn is_unlit(power: bool, time: u16) -> bool
+    ensures { λ r. ⌜ r ≡ (ltb 0 time && not power) ⌝ }
 {
     if power {
         return false;
     }
+    0 < time
+}
+
+// Does this command ask for pictures with the power off?
+pub fn is_dark(power: bool, kind: Kind) -> bool
+    ensures { λ r. ⌜ r ≡ dark power kind ⌝ }
+{
     match kind {
         Kind::ImgPwr(_) => false,
         Kind::ImgRegion(_, _) => false,
-        Kind::ImgTrack(time, _) => 0 < time,
+        Kind::ImgTrack(time, _) => is_unlit(power, time),
         Kind::TrkAlg(_) => false,
         Kind::TrkLoop(_) => false,
-        Kind::ImgImage(time, _) => 0 < time,
+        Kind::ImgImage(time, _) => is_unlit(power, time),
         Kind::TrkGoal(_, _) => false,
         Kind::TlmFlush => false,
         Kind::FlushAuto(_) => false,

@@ -1,22 +1,7 @@
--- `camera::is_dark` meets its contract: with the power off the kind decides, and of two kinds the time.
+-- `camera::is_dark` meets its contract: in each arm the kind is known, and of two kinds the time and the power decide.
 use borrow.Author.Needs.{needs}
-use mathlib.Core.Path.{_≡_, refl}
-use mathlib.Core.Bool.{Bool, true, false, _&&_}
-use Rattle.camera.specs.Camera.{asksPicture}
 use Rattle.camera.proofs.is_dark.Statement.{statement}
 use Rattle.camera.proofs.is_dark.Tie as tie
-
--- With the power on nothing is dark; with the power off a picture is.
-lit : (asks : Bool) → false ≡ (asks && false)
-lit true = refl
-lit false = refl
-
-unlit : (asks : Bool) → asks ≡ (asks && true)
-unlit true = refl
-unlit false = refl
-
-returns : tie.Need-returns
-returns c = rw (c .if1 .taken) (lit (asksPicture (c .before .args .kind)))
 
 enum-told : tie.Need-enum-told
 enum-told c = search needs
@@ -27,6 +12,9 @@ enum-told-2 c = search needs
 enum-known-kind : tie.Need-enum-known-kind
 enum-known-kind c = search needs
 
+is-unlit-requires : tie.Need-is-unlit-requires
+is-unlit-requires c κs = search needs
+
 enum-told-3 : tie.Need-enum-told-3
 enum-told-3 c = search needs
 
@@ -35,6 +23,9 @@ enum-told-4 c = search needs
 
 enum-known-kind-2 : tie.Need-enum-known-kind-2
 enum-known-kind-2 c = search needs
+
+is-unlit-requires-2 : tie.Need-is-unlit-requires-2
+is-unlit-requires-2 c κs = search needs
 
 enum-told-5 : tie.Need-enum-told-5
 enum-told-5 c = search needs
@@ -63,23 +54,26 @@ enum-told-12 c = search needs
 enum-told-13 : tie.Need-enum-told-13
 enum-told-13 c = search needs
 
+returns : tie.Need-returns
+returns c = search needs
+
 returns-2 : tie.Need-returns-2
 returns-2 c = search needs
 
 returns-3 : tie.Need-returns-3
-returns-3 c = search needs
+returns-3 c = rw (c .before .before .kind .given .1) (c .is-unlit .ensures)
 
 returns-4 : tie.Need-returns-4
-returns-4 c = rw (c .before .before .before .if1 .left, c .before .kind .given .1) (unlit _)
+returns-4 c = search needs
 
 returns-5 : tie.Need-returns-5
 returns-5 c = search needs
 
 returns-6 : tie.Need-returns-6
-returns-6 c = search needs
+returns-6 c = rw (c .before .before .kind2 .given .1) (c .is-unlit2 .ensures)
 
 returns-7 : tie.Need-returns-7
-returns-7 c = rw (c .before .before .before .if1 .left, c .before .kind2 .given .1) (unlit _)
+returns-7 c = search needs
 
 returns-8 : tie.Need-returns-8
 returns-8 c = search needs
@@ -105,20 +99,18 @@ returns-14 c = search needs
 returns-15 : tie.Need-returns-15
 returns-15 c = search needs
 
-returns-16 : tie.Need-returns-16
-returns-16 c = search needs
-
 pub is-dark-spec : {M : Type 1} → statement M
 is-dark-spec =
     tie.close
     (tie.spec
-    returns
     enum-told
     enum-told-2
     enum-known-kind
+    is-unlit-requires
     enum-told-3
     enum-told-4
     enum-known-kind-2
+    is-unlit-requires-2
     enum-told-5
     enum-told-6
     enum-told-7
@@ -128,6 +120,7 @@ is-dark-spec =
     enum-told-11
     enum-told-12
     enum-told-13
+    returns
     returns-2
     returns-3
     returns-4
@@ -141,5 +134,4 @@ is-dark-spec =
     returns-12
     returns-13
     returns-14
-    returns-15
-    returns-16)
+    returns-15)
