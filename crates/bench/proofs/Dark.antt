@@ -8,7 +8,7 @@ use mathlib.Core.Bool.{Bool, true, false, cond, not, _&&_, false≢true}
 use native.Mathlib.Omega.{arith}
 use lib.ListN.{length, getD, take}
 use lib.Seq.{take-all}
-use lib.Dec.{eqb, ltb}
+use lib.Dec.{eqb}
 use borrow.Author.Tests.{eqb-true, ltb-true, lt-ltb, not-true}
 use Rattle.words.proofs.Tests.{both}
 use Rattle.wire.specs.declared.kinds.Kind.{Kind}
@@ -28,9 +28,9 @@ use Rattle.store.proofs.Sound.{second-keeps}
 use Rattle.store.proofs.Handed.{All, Plain, handed-plainly}
 use Rattle.bench.specs.declared.Bench.{Bench}
 use Rattle.bench.specs.Status.{benchSound}
-use Rattle.bench.specs.Carry.{Outcome, row26, outcomeFor, carryCode, carryOut}
+use Rattle.bench.specs.Carry.{row26, outcomeFor, carryCode, carryOut}
 use Rattle.bench.specs.Second.{handedTo, handedCode, executedAll, handedCodes, secondAt}
-use Rattle.bench.proofs.Outcomes.{judge-coded, behindCode, behind-code, carry-code}
+use Rattle.bench.proofs.Outcomes.{judge-coded, behind-code, carry-code}
 use Rattle.bench.proofs.Rows.{first-upTo}
 use Rattle.bench.proofs.Camera.{camera-second, handed-good}
 use Rattle.bench.proofs.Sound.{GoodBench, facts-of, of-facts, second-is}

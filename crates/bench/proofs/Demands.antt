@@ -180,9 +180,9 @@ demand-1-list-text raw room refused = texts.refused-listing raw room refused
 -- checks, with the sender's own line number. Commands and status frames can be written as well as read, and come back equal."
 
 -- "A command is taken exactly when the CRISP guide's tables and our rules allow it."
--- `commandChecks` are rows 8 to 19 in their order, 26 behind 10 and 25 behind 15, and `bytesChecks` rows 1 to 19 likewise; the guide's tables are in wire, specs/Table. On
--- a sound bench a command is accepted and takes its effect exactly when no row holds. (Every bench that can be reached is sound: see the end of this
--- file.)
+-- `commandChecks` are rows 8 to 19 in their order, 26 behind 10 and 25 behind 15, and `bytesChecks` rows 1 to 19 likewise; the guide's tables are in
+-- wire, specs/Table. On a sound bench a command is accepted and takes its effect exactly when no row holds. (Every bench that can be reached is
+-- sound: see the end of this file.)
 pub demand-2-taken : (b : Bench) → benchSound b ≡ true → (c : Command)
     → (carryOut b c ≡ record { told = toldWith 0 0; bench = effectOf b c }) ↔ NoneDue (commandChecks b c)
 demand-2-taken b sound c = rows.command-taken b sound c

@@ -1,6 +1,6 @@
--- Laws of the bench, in two groups: what a reader wants to know (`Demands` is the file to open first; `Cases` has 01's starred examples,
--- `Dark` what is said of the power, `FreeEntries` of the free macro entries, `Report`, `TypedReport` and `LineShown` what a moderator asks of the records), and the laws
--- behind those and behind single functions.
+-- Laws of the bench, in two groups: what a reader wants to know (`Demands` is the file to open first; `Cases` has 01's starred examples, `Dark` what
+-- is said of the power, `FreeEntries` of the free macro entries, `Report`, `TypedReport` and `LineShown` what a moderator asks of the records), and the
+-- laws behind those and behind single functions.
 pub mod Demands
 pub mod Cases
 pub mod Dark

@@ -1,4 +1,5 @@
--- Carrying out one command: the codes in their order, 26 among them (02, Q-3), the effect of an accepted command, and that a refused one changes no part of the state.
+-- Carrying out one command: the codes in their order, 26 among them (02, Q-3), the effect of an accepted command, and that a refused one changes no
+-- part of the state.
 use Prim.Native.Nat.{ℕ}
 use mathlib.Core.List.{List, _∷_, _++_}
 use mathlib.Core.Bool.{Bool, cond, not, _&&_}

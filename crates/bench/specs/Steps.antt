@@ -1,6 +1,6 @@
 -- Steps of the implementation; no public promise of the product needs them.
--- A bench at work on a lent pool; what becomes of a command, from the power and the tally of the macros alone; what a survey finds; and what refused calls hand
--- back.
+-- A bench at work on a lent pool; what becomes of a command, from the power and the tally of the macros alone; what a survey finds; what executing a
+-- group leaves; and what refused calls hand back.
 use Prim.Native.Nat.{ℕ}
 use mathlib.Core.Path.{_≡_}
 use mathlib.Core.List.{List, [], _∷_, _++_}

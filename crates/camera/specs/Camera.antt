@@ -1,4 +1,5 @@
--- The camera's fields: what an executed command sets, and what one second does. Macro commands leave the camera as it is.
+-- The camera's fields: what an executed command sets, which one asks for pictures in the dark, and what one second does. Macro commands leave the
+-- camera as it is.
 use Prim.Native.Nat.{ℕ, _+_, _%_}
 use mathlib.Core.Bool.{Bool, false, not, _&&_}
 use lib.Dec.{ltb, eqb}
@@ -70,7 +71,7 @@ executedOf c (Kind.Wait seconds) = c
 executedOf c Kind.Stop = c
 executedOf c Kind.Clear = c
 
--- 02, Q-3: "An IMAGE or TRACK with a time above 0 is refused while power is off." A time of 0 asks for no picture.
+-- 02, Q-3: "An IMAGE or TRACK with a time above 0" asks for pictures; with a time of 0 it asks for none.
 abbrev pub asksPicture : Kind → Bool
 asksPicture (Kind.ImgPwr mode) = false
 asksPicture (Kind.ImgRegion x y) = false
@@ -88,6 +89,7 @@ asksPicture (Kind.Wait seconds) = false
 asksPicture Kind.Stop = false
 asksPicture Kind.Clear = false
 
+-- ".. is refused while power is off": such a one is dark.
 abbrev pub dark : Bool → Kind → Bool
 dark power kind = asksPicture kind && not power
 

@@ -1,4 +1,4 @@
-// The camera's fields and its two series of images: what an executed command sets, and what a second does.
+// The camera's fields and its two series of images: what an executed command sets, which one asks for pictures in the dark, and what a second does.
 // Macro commands are not the camera's: executing one leaves it as it is.
 ghost use mathlib.Core.Path.{_≡_};
 ghost use mathlib.Core.Bool.{not, _&&_};
