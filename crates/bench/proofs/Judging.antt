@@ -86,12 +86,12 @@ pub no-second : (b : Bench) → benchSound b ≡ false → stayedAt b ≡ second
 unfolding secondAt
 no-second b unsound = rw unsound
 
--- Nothing is handed over in it.
-pub none-handed : (b : Bench) (group : Group) → group ≡ groupOf []
-    → (record { told = toldWith 27 0; bench = b; handed = kindsIn group; codes = take (group .count) (codesShown []) } ≡ stayedAt b)
+-- Nothing is handed over in it, and no code told.
+pub none-handed : (b : Bench) (group : Group) (codes : List ℕ) → group ≡ groupOf [] → codes ≡ codesShown []
+    → (record { told = toldWith 27 0; bench = b; handed = kindsIn group; codes = take (group .count) codes } ≡ stayedAt b)
     × (group ≡ groupOf [])
-    × (codesShown [] ≡ codesShown [])
-none-handed b group none = (rw none, none, refl)
+    × (codes ≡ codesShown [])
+none-handed b group codes none zeros = (rw none, none, zeros)
 
 -- So what is told of such a second is told of it.
 pub stayed-told : (b : Bench) (r : Passed) → (passedOf r ≡ stayedAt b) × (r .group ≡ groupOf []) × (r .codes ≡ codesShown []) → stayedAt b ≡ secondAt b
