@@ -1,4 +1,5 @@
--- What becomes of a command, step by step as the power and the tally are asked: each part that passes leaves the rows behind it, and a refusal takes no command.
+-- What becomes of a command, step by step as the power and the tally are asked: each part that passes leaves the rows behind it, and a refusal takes no
+-- command.
 use Prim.Native.Nat.{ℕ}
 use mathlib.Core.Path.{_≡_, refl, sym, ap, _∙_}
 use mathlib.Core.List.{List, [], _∷_, _++_}

@@ -145,7 +145,7 @@ next-taken free k b at more = (zero, rw zero next)
         let one = append-free (b .store) good flush flush-judged permit refl in
         let same = append-open (b .store) good flush flush-judged permit refl in
         record {
-          good = effect-keeps b (at .good) flush (record { judge = flush-judged; lit = refl; permit = permit });
+          good = effect-keeps b (at .good) flush (record { judge = flush-judged; permit = permit });
           opened = omega (arith, same, at .opened);
           left = omega (arith, one, at .left);
         }

@@ -177,7 +177,7 @@ module _ (b : Bench) (good : GoodBench b) (free : Idle b) (m : ℕ) (closed : is
       ap (λ n. outcomeFor n b (said s)) code ∙ ap (λ (c : Command). outcomeFor 0 b c) (says .1)
 
   pub begun-sound : GoodBench (effectOf b (runCommand m))
-  begun-sound = effect-keeps b good (runCommand m) (record { judge = run-judged; lit = refl; permit = run-permitted })
+  begun-sound = effect-keeps b good (runCommand m) (record { judge = run-judged; permit = run-permitted })
 
 -- The same where RUN m stands among the commands of a run: after those that stand before it, and with no STOP accepted behind it.
 module _ (b : Bench) (good : GoodBench b) (before : List (List ℕ)) (s : List ℕ) (behind : List (List ℕ)) where

@@ -130,10 +130,9 @@ good-store b good = facts-of b good .store
 pub fresh-sound : GoodBench freshBench
 fresh-sound = of-facts freshBench (record { camera = fresh-camera; store = fresh-good })
 
--- A command that is accepted passed rows 8 to 10, row 26 and the store's rows.
+-- A command that is accepted passed rows 8 to 10 and the store's rows. (That it passed 26 besides, no law here asks.)
 pub record Accepted (b : Bench) (c : Command) : Type 0 where
   pub judge : judgeCode c ≡ 0
-  pub lit : row26 (b .camera .power) (c .flag) (c .kind) ≡ false
   pub permit : permitCode (b .store) c ≡ 0
 
 no-row : (first rest : ℕ) → cond (eqb first 0) rest first ≡ 0 → (first ≡ 0) × (rest ≡ 0)
@@ -143,15 +142,15 @@ no-row first rest h = go (eqb first 0) refl
     go true e = (eqb-true first 0 e, rw e at h)
     go false e = absurd (eqb-false first 0 e (rw e at h))
 
-not-due : (due : Bool) (rest : ℕ) → cond due 26 rest ≡ 0 → (due ≡ false) × (rest ≡ 0)
-not-due true rest h = absurd (omega arith)
-not-due false rest h = (refl, h)
+behind-26 : (due : Bool) (rest : ℕ) → cond due 26 rest ≡ 0 → rest ≡ 0
+behind-26 true rest h = absurd (omega arith)
+behind-26 false rest h = h
 
 -- From the code of each part, 0.
 accepted-of : (b : Bench) (c : Command) → judgeCode c ≡ 0 → behindCode b c ≡ 0 → Accepted b c
 accepted-of b c judge zero =
-    let parts = not-due (row26 (b .camera .power) (c .flag) (c .kind)) (permitCode (b .store) c) (sym (behind-code b c) ∙ zero) in
-    record { judge = judge; lit = parts .0; permit = parts .1 }
+    let permit = behind-26 (row26 (b .camera .power) (c .flag) (c .kind)) (permitCode (b .store) c) (sym (behind-code b c) ∙ zero) in
+    record { judge = judge; permit = permit }
 
 pub judge-accepted : (b : Bench) (c : Command) → firstOf (commandChecks b c) ≡ 0 → Accepted b c
 judge-accepted b c zero =
