@@ -7,7 +7,7 @@
 #include <string.h>
 #include <time.h>
 
-enum { ROUNDS = 40, LEAST = 2000000 /* ns of one round of one side */, LIST = 4096, ROOM = 8192, ROOMS = 2 * ROOM };
+enum { ROUNDS = 40, LEAST = 2000000 /* ns of one round of one side */, LIST = 4096, RECORD = 12, ROOM = 1024 * RECORD, ROOMS = 2 * ROOM };
 enum { UNTOUCHED = 0xa5 /* what a room is filled with beforehand */ };
 
 static uint8_t commands[256], frames[256];
@@ -406,7 +406,7 @@ static unsigned accepted(const struct job *j)
     unsigned n = 0;
     memset(room, 0xff, ROOM);
     do_job(j, false, room, 1);
-    for (unsigned i = 0; i < j->units; i++) n += room[8 * i + 1] == 0;
+    for (unsigned i = 0; i < j->units; i++) n += room[RECORD * i + 1] == 0;
     return n;
 }
 

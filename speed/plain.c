@@ -1,12 +1,13 @@
 /* The bench of 01-scope.md in plain C, written from that page: the state is one struct that is passed by pointer and changed in place.
    It does the same jobs as crates/timing and folds their results in the same way. Typed lists are assembled and listed by the rules of request Q-1;
-   the macros share one pool of entries by those of request Q-9, a second hands over a group of them by those of request Q-2, and no picture is asked
-   for with the power off by those of request Q-3. */
+   the macros share one pool of entries by those of request Q-9, a second hands over a group of them by those of request Q-2, no picture is asked for
+   with the power off by those of request Q-3, and a number out of range is told with its limits by those of request Q-6. */
 #include "plain.h"
 #include <stdbool.h>
 #include <string.h>
 
-enum { MACROS = 8, POOL = 192, NONE = 255, LONGEST = 600, GROUP = 64, FOR_EVER = 65535, LIST = 4096, ROOM = 8192 };
+enum { MACROS = 8, POOL = 192, NONE = 255, LONGEST = 600, GROUP = 64, FOR_EVER = 65535, LIST = 4096, RECORD = 12, ROOM = 1024 * RECORD };
+enum { LAST_PIXEL = 1023, LAST_ALGORITHM = 2, LAST_GOAL = 0x447fffff /* the bits of the largest single below 1024 */ };
 enum { TEXT = 32768, DIGITS = 5, LISTED = 8192 /* above the 7,846 bytes that a list's text has at most */ };
 
 enum kind {
@@ -51,8 +52,10 @@ struct frame {
     uint8_t closed;
 };
 
-struct told {
-    uint8_t code, par;
+/* An argument out of range: which one it is, 1 or 2, its value, and the lowest and the highest allowed. All zeros where there is none. */
+struct stray {
+    uint8_t par;
+    uint32_t value, low, high;
 };
 
 static uint16_t get16(const uint8_t *s)
@@ -93,48 +96,69 @@ static uint32_t bits(float x)
     return v;
 }
 
-static struct told told(uint8_t code, uint8_t par)
+/* The lowest and the highest that each argument of a kind may be, for telling; of goals, by their bits. The tests in judge have them as constants,
+   which is faster. */
+static const struct limits {
+    uint32_t low, high;
+} limits[][2] = {
+    [IMG_PWR] = { { 0, 1 } },
+    [IMG_REGION] = { { 0, LAST_PIXEL }, { 0, LAST_PIXEL } },
+    [IMG_TRACK] = { { 0, 65535 }, { 1, 65535 } },
+    [TRK_ALG] = { { 0, LAST_ALGORITHM } },
+    [TRK_LOOP] = { { 0, 1 } },
+    [IMG_IMAGE] = { { 0, 65535 }, { 1, 65535 } },
+    [TRK_GOAL] = { { 0, LAST_GOAL }, { 0, LAST_GOAL } },
+    [FLUSH_AUTO] = { { 0, 1 } },
+    [OPEN] = { { 0, MACROS - 1 } },
+    [RUN] = { { 0, MACROS - 1 } },
+    [WAIT] = { { 1, LONGEST } },
+};
+
+/* Code 8: an argument of this command, 1 or 2, has a value outside its limits. That is rare, so it is kept out of line. */
+__attribute__((cold, noinline))
+static uint8_t out_of_range(const struct command *c, uint8_t par, uint32_t value, struct stray *stray)
 {
-    struct told t = { code, par };
-    return t;
+    const struct limits *l = &limits[c->kind][par - 1];
+    *stray = (struct stray){ par, value, l->low, l->high };
+    return 8;
 }
 
 static bool goal_allowed(uint32_t v)
 {
-    return v <= 0x447fffff || v == 0x80000000;
+    return v <= LAST_GOAL || v == 0x80000000;
 }
 
-/* Codes 8 to 10 on a decoded command. */
-static struct told judge(const struct command *c)
+/* Codes 8 to 10 on a decoded command. Here and below, 8 alone sets *stray. */
+static uint8_t judge(const struct command *c, struct stray *stray)
 {
     switch (c->kind) {
     case IMG_PWR: case TRK_LOOP: case FLUSH_AUTO:
-        if (c->mode > 1) return told(8, 1);
+        if (c->mode > 1) return out_of_range(c, 1, c->mode, stray);
         break;
     case TRK_ALG:
-        if (c->mode > 2) return told(8, 1);
+        if (c->mode > LAST_ALGORITHM) return out_of_range(c, 1, c->mode, stray);
         break;
     case OPEN: case RUN:
-        if (c->mode >= MACROS) return told(8, 1);
+        if (c->mode >= MACROS) return out_of_range(c, 1, c->mode, stray);
         break;
     case WAIT:
-        if (c->seconds < 1 || c->seconds > LONGEST) return told(8, 1);
+        if (c->seconds < 1 || c->seconds > LONGEST) return out_of_range(c, 1, c->seconds, stray);
         break;
     case IMG_REGION:
-        if (c->first > 1023) return told(8, 1);
-        if (c->second > 1023) return told(8, 2);
+        if (c->first > LAST_PIXEL) return out_of_range(c, 1, c->first, stray);
+        if (c->second > LAST_PIXEL) return out_of_range(c, 2, c->second, stray);
         break;
     case IMG_TRACK: case IMG_IMAGE:
-        if (c->second < 1) return told(8, 2);
+        if (c->second < 1) return out_of_range(c, 2, c->second, stray);
         break;
     case TRK_GOAL:
-        if (!goal_allowed(bits(c->x))) return told(8, 1);
-        if (!goal_allowed(bits(c->y))) return told(8, 2);
+        if (!goal_allowed(bits(c->x))) return out_of_range(c, 1, bits(c->x), stray);
+        if (!goal_allowed(bits(c->y))) return out_of_range(c, 2, bits(c->y), stray);
         break;
     }
-    if (c->flag && (c->kind == OPEN || c->kind == CLOSE || c->kind == STOP || c->kind == CLEAR)) return told(9, 0);
-    if (!c->flag && c->kind == WAIT) return told(10, 0);
-    return told(0, 0);
+    if (c->flag && (c->kind == OPEN || c->kind == CLOSE || c->kind == STOP || c->kind == CLEAR)) return 9;
+    if (!c->flag && c->kind == WAIT) return 10;
+    return 0;
 }
 
 static int kind_of(uint16_t opcode, unsigned *words)
@@ -160,30 +184,30 @@ static int kind_of(uint16_t opcode, unsigned *words)
 }
 
 /* Codes 1 to 10. *span is how far the command reaches: all the bytes where the list ends. */
-static struct told read_command(const uint8_t *s, size_t size, struct command *c, size_t *span)
+static uint8_t read_command(const uint8_t *s, size_t size, struct command *c, size_t *span, struct stray *stray)
 {
     *span = size;
-    if (size < 8) return told(1, 0);
+    if (size < 8) return 1;
     unsigned length = get16(s + 2) & 0x7fff;
-    if (length < 2 || length > 32) return told(2, 0);
-    if (4 * length > size) return told(3, 0);
+    if (length < 2 || length > 32) return 2;
+    if (4 * length > size) return 3;
     *span = 4 * length;
     uint32_t sum = 0;
     for (unsigned i = 0; i < length; i++) sum ^= get32(s + 4 * i);
-    if (sum != 0) return told(4, 0);
+    if (sum != 0) return 4;
     unsigned words;
     int kind = kind_of(get16(s), &words);
-    if (kind < 0) return told(5, 0);
-    if (length != words) return told(6, 0);
+    if (kind < 0) return 5;
+    if (length != words) return 6;
     c->flag = (s[2] & 0x80) != 0;
     c->kind = (uint8_t)kind;
     switch (kind) {
     case IMG_PWR: case TRK_ALG: case TRK_LOOP: case FLUSH_AUTO: case OPEN: case RUN:
-        if (s[5] != 0 || s[6] != 0 || s[7] != 0) return told(7, 0);
+        if (s[5] != 0 || s[6] != 0 || s[7] != 0) return 7;
         c->mode = s[4];
         break;
     case WAIT:
-        if (s[6] != 0 || s[7] != 0) return told(7, 0);
+        if (s[6] != 0 || s[7] != 0) return 7;
         c->seconds = get16(s + 4);
         break;
     case IMG_REGION: case IMG_TRACK: case IMG_IMAGE:
@@ -195,7 +219,7 @@ static struct told read_command(const uint8_t *s, size_t size, struct command *c
         c->y = single(get32(s + 8));
         break;
     }
-    return judge(c);
+    return judge(c, stray);
 }
 
 static uint16_t opcode_of(uint8_t kind)
@@ -207,11 +231,11 @@ static uint16_t opcode_of(uint8_t kind)
 }
 
 /* Codes 8 to 10, then 24. */
-static struct told write_command(const struct command *c, uint8_t *room, size_t fits, size_t *size)
+static uint8_t write_command(const struct command *c, uint8_t *room, size_t fits, size_t *size, struct stray *stray)
 {
     *size = 0;
-    struct told t = judge(c);
-    if (t.code != 0) return t;
+    uint8_t code = judge(c, stray);
+    if (code != 0) return code;
     uint32_t words[4];
     unsigned n = 1;
     switch (c->kind) {
@@ -229,7 +253,7 @@ static struct told write_command(const struct command *c, uint8_t *room, size_t 
         words[n++] = bits(c->y);
         break;
     }
-    if (fits < 4 * (n + 1)) return told(24, 0);
+    if (fits < 4 * (n + 1)) return 24;
     words[0] = (uint32_t)opcode_of(c->kind) << 16 | (c->flag ? 0x8000u : 0) | (n + 1);
     uint32_t sum = 0;
     for (unsigned i = 0; i < n; i++) {
@@ -238,7 +262,7 @@ static struct told write_command(const struct command *c, uint8_t *room, size_t 
     }
     put32(room + 4 * n, sum);
     *size = 4 * (n + 1);
-    return told(0, 0);
+    return 0;
 }
 
 static bool macro_or_none(uint8_t m)
@@ -249,9 +273,9 @@ static bool macro_or_none(uint8_t m)
 static bool frame_obeys(const struct frame *f)
 {
     if (f->image_interval < 1 || f->track_interval < 1) return false;
-    if (f->x > 1023 || f->y > 1023) return false;
+    if (f->x > LAST_PIXEL || f->y > LAST_PIXEL) return false;
     if (!goal_allowed(f->xgoal) || !goal_allowed(f->ygoal)) return false;
-    if (f->algorithm > 2) return false;
+    if (f->algorithm > LAST_ALGORITHM) return false;
     if (!macro_or_none(f->running) || !macro_or_none(f->opened)) return false;
     if (f->left > LONGEST || (f->left == 0) != (f->running == NONE)) return false;
     if (f->running != NONE && !(f->closed >> f->running & 1)) return false;
@@ -464,7 +488,8 @@ static bool sound(const struct bench *b, struct span *spans)
         if (b->closed[m] && (b->counts[m] < 1 || seconds < 1 || seconds > LONGEST || spans[m].most > GROUP)) return false;
         if (!b->closed[m] && b->opened != m && b->counts[m] != 0) return false;
         for (const struct command *end = c + b->counts[m]; c < end; c++) {
-            if (!c->flag || judge(c).code != 0) return false;
+            struct stray stray;
+            if (!c->flag || judge(c, &stray) != 0) return false;
             if (c->kind == RUN && (c->mode >= m || !b->closed[c->mode])) return false;
         }
     }
@@ -547,16 +572,15 @@ static void append(struct bench *b, const struct command *c)
 }
 
 /* The command at the front of these bytes, on a sound bench. */
-static struct told take(struct bench *b, const uint8_t *s, size_t size, size_t *reach)
+static uint8_t take(struct bench *b, const uint8_t *s, size_t size, size_t *reach, struct stray *stray)
 {
     struct command c;
-    struct told t = read_command(s, size, &c, reach);
-    if (t.code != 0) return t;
-    uint8_t code = denied(b, &c);
-    if (code != 0) return told(code, 0);
+    uint8_t code = read_command(s, size, &c, reach, stray);
+    if (code == 0) code = denied(b, &c);
+    if (code != 0) return code;
     if (c.flag) append(b, &c);
     else execute(b, &c);
-    return told(0, 0);
+    return 0;
 }
 
 static uint32_t run_list(struct bench *b, const uint8_t *list, size_t size, uint8_t sender, uint8_t *room)
@@ -564,13 +588,15 @@ static uint32_t run_list(struct bench *b, const uint8_t *list, size_t size, uint
     uint32_t count = 0;
     size_t reach;
     for (size_t at = 0; at < size; at += reach) {
-        struct told t = take(b, list + at, size - at, &reach);
-        uint8_t *record = room + 8 * count;
+        struct stray stray;
+        uint8_t code = take(b, list + at, size - at, &reach, &stray);
+        uint8_t *record = room + RECORD * count;
         record[0] = sender;
-        record[1] = t.code;
-        record[2] = t.par;
+        record[1] = code;
+        record[2] = code == 8 ? stray.par : 0;
         record[3] = 0;
         put32(record + 4, ++count);
+        put32(record + 8, code == 8 ? stray.value : 0);
     }
     return count;
 }
@@ -585,7 +611,7 @@ static uint8_t run(struct bench *b, const uint8_t *kit, size_t kits, const uint8
     struct span spans[MACROS];
     if (!sound(b, spans)) return 27;
     records[0] = run_list(b, kit, kits, 1, room);
-    records[1] = run_list(b, pupil, pupils, 2, room + 8 * records[0]);
+    records[1] = run_list(b, pupil, pupils, 2, room + RECORD * records[0]);
     return 0;
 }
 
@@ -686,29 +712,29 @@ static bool goal(struct word w, float *value)
 }
 
 /* 8 where a number is too large for its field; the rest of 8 to 10 is left to the writer. */
-static struct told set_numbers(struct command *c, uint32_t first, uint32_t second)
+static uint8_t set_numbers(struct command *c, uint32_t first, uint32_t second, struct stray *stray)
 {
     switch (c->kind) {
     case IMG_PWR: case TRK_ALG: case TRK_LOOP: case FLUSH_AUTO: case OPEN: case RUN:
-        if (first > 255) return told(8, 1);
+        if (first > 255) return out_of_range(c, 1, first, stray);
         c->mode = (uint8_t)first;
         break;
     case WAIT:
-        if (first > 65535) return told(8, 1);
+        if (first > 65535) return out_of_range(c, 1, first, stray);
         c->seconds = (uint16_t)first;
         break;
     case IMG_REGION: case IMG_TRACK: case IMG_IMAGE:
-        if (first > (c->kind == IMG_REGION ? 1023 : 65535)) return told(8, 1);
-        if (second > 65535) return told(8, 2);
+        if (first > limits[c->kind][0].high) return out_of_range(c, 1, first, stray);
+        if (second > 65535) return out_of_range(c, 2, second, stray);
         c->first = (uint16_t)first;
         c->second = (uint16_t)second;
         break;
     }
-    return told(0, 0);
+    return 0;
 }
 
 /* 30, 32, 31, then 8 as above, on a line that is neither empty nor a remark. */
-static struct told read_line(const uint8_t *s, size_t size, struct command *c)
+static uint8_t read_line(const uint8_t *s, size_t size, struct command *c, struct stray *stray)
 {
     struct word words[3]; /* the name and two arguments */
     size_t count = 0, start = s[0] == '+';
@@ -720,44 +746,44 @@ static struct told read_line(const uint8_t *s, size_t size, struct command *c)
         start = at + 1;
     }
     int kind = kind_named(words[0]);
-    if (kind < 0) return told(30, 0);
-    if (count != names[kind].arguments + 1u) return told(32, 0);
+    if (kind < 0) return 30;
+    if (count != names[kind].arguments + 1u) return 32;
     c->kind = (uint8_t)kind;
     if (kind == TRK_GOAL) {
         float x, y;
-        if (!goal(words[1], &x) || !goal(words[2], &y)) return told(31, 0);
+        if (!goal(words[1], &x) || !goal(words[2], &y)) return 31;
         c->x = x;
         c->y = y;
-        return told(0, 0);
+        return 0;
     }
     uint32_t numbers[2] = { 0, 0 };
     for (size_t i = 1; i < count; i++) {
-        if (!whole(words[i], &numbers[i - 1])) return told(31, 0);
+        if (!whole(words[i], &numbers[i - 1])) return 31;
     }
-    return set_numbers(c, numbers[0], numbers[1]);
+    return set_numbers(c, numbers[0], numbers[1], stray);
 }
 
-/* What became of a text or a list: code, parameter, the line or the command that was refused (0 where it is neither), bytes written. */
+/* What became of a text or a list: a code, the line or the command that was refused (0 where it is neither), bytes written. */
 struct placed {
-    struct told told;
+    uint8_t code;
     uint32_t place;
     size_t bytes;
 };
 
-static struct placed placed(struct told t, uint32_t place, size_t bytes)
+static struct placed placed(uint8_t code, uint32_t place, size_t bytes)
 {
-    struct placed p = { t, place, bytes };
+    struct placed p = { code, place, bytes };
     return p;
 }
 
 /* 20, the first bad line, 20, 24. The list is made beside the room, so that a refusal leaves the room alone. */
-static struct placed assembled(const uint8_t *text, size_t size, uint8_t *room, size_t fits)
+static struct placed assembled(const uint8_t *text, size_t size, uint8_t *room, size_t fits, struct stray *stray)
 {
     uint8_t list[LIST];
     size_t made = 0;
     uint32_t line = 0;
     bool too_long = false;
-    if (size > TEXT) return placed(told(20, 0), 0, 0);
+    if (size > TEXT) return placed(20, 0, 0);
     for (size_t at = 0, end; at < size; at = end + 1) {
         const uint8_t *feed = memchr(text + at, '\n', size - at);
         end = feed != NULL ? (size_t)(feed - text) : size;
@@ -765,16 +791,16 @@ static struct placed assembled(const uint8_t *text, size_t size, uint8_t *room, 
         if (end == at || text[at] == '#') continue;
         struct command c;
         size_t n = 0;
-        struct told t = read_line(text + at, end - at, &c);
-        if (t.code == 0) t = write_command(&c, list + made, LIST - made, &n);
-        if (t.code == 24) too_long = true; /* a bad line further down still comes first */
-        else if (t.code != 0) return placed(t, line, 0);
+        uint8_t code = read_line(text + at, end - at, &c, stray);
+        if (code == 0) code = write_command(&c, list + made, LIST - made, &n, stray);
+        if (code == 24) too_long = true; /* a bad line further down still comes first */
+        else if (code != 0) return placed(code, line, 0);
         made += n;
     }
-    if (too_long) return placed(told(20, 0), 0, 0);
-    if (made > fits) return placed(told(24, 0), 0, 0);
+    if (too_long) return placed(20, 0, 0);
+    if (made > fits) return placed(24, 0, 0);
     memcpy(room, list, made);
-    return placed(told(0, 0), 0, made);
+    return placed(0, 0, made);
 }
 
 static uint8_t *put_number(uint8_t *out, uint32_t value)
@@ -832,24 +858,24 @@ static uint8_t *put_line(uint8_t *out, const struct command *c)
 }
 
 /* 20, the first bad command, 24. The text is made beside the room, as above. */
-static struct placed listed(const uint8_t *list, size_t size, uint8_t *room, size_t fits)
+static struct placed listed(const uint8_t *list, size_t size, uint8_t *room, size_t fits, struct stray *stray)
 {
     uint8_t text[LISTED], *out = text;
     uint32_t number = 0;
     size_t reach;
-    if (size > LIST) return placed(told(20, 0), 0, 0);
+    if (size > LIST) return placed(20, 0, 0);
     for (size_t at = 0; at < size; at += reach) {
         struct command c;
         number++;
-        struct told t = read_command(list + at, size - at, &c, &reach);
-        if (t.code != 0) return placed(t, number, 0);
+        uint8_t code = read_command(list + at, size - at, &c, &reach, stray);
+        if (code != 0) return placed(code, number, 0);
         out = put_line(out, &c);
-        if (out == NULL) return placed(told(33, 0), number, 0);
+        if (out == NULL) return placed(33, number, 0);
     }
     size_t made = (size_t)(out - text);
-    if (made > fits) return placed(told(24, 0), 0, 0);
+    if (made > fits) return placed(24, 0, 0);
     memcpy(room, text, made);
-    return placed(told(0, 0), 0, made);
+    return placed(0, 0, made);
 }
 
 /* The measured jobs, as in crates/timing. */
@@ -889,14 +915,14 @@ static uint64_t with_group(uint64_t sum, const struct group *g)
     return sum;
 }
 
-static uint64_t with_told(uint64_t sum, struct told t)
+static uint64_t with_code(uint64_t sum, uint8_t code, const struct stray *stray)
 {
-    return mixed(mixed(sum, t.code), t.par);
+    return mixed(mixed(mixed(mixed(mixed(sum, code), stray->par), stray->value), stray->low), stray->high);
 }
 
-static uint64_t with_placed(uint64_t sum, struct placed p)
+static uint64_t with_placed(uint64_t sum, struct placed p, const struct stray *stray)
 {
-    return mixed(mixed(with_told(sum, p.told), p.place), p.bytes);
+    return mixed(mixed(with_code(sum, p.code, stray), p.place), p.bytes);
 }
 
 static uint64_t with_frame(uint64_t sum, const struct frame *f)
@@ -928,8 +954,9 @@ uint64_t plain_read(const uint8_t *bytes, size_t size, uint32_t times)
     for (uint32_t i = 0; i < times; i++) {
         struct command c;
         size_t reach, at = i % 16 * 16;
-        struct told t = read_command(bytes + at, size - at, &c, &reach);
-        sum = t.code == 0 ? with_command(sum, &c) : with_told(sum, t);
+        struct stray stray = { 0 };
+        uint8_t code = read_command(bytes + at, size - at, &c, &reach, &stray);
+        sum = code == 0 ? with_command(sum, &c) : with_code(sum, code, &stray);
     }
     return sum;
 }
@@ -941,15 +968,17 @@ uint64_t plain_write(const uint8_t *bytes, size_t size, uint8_t *room, size_t fi
     uint64_t sum = 0;
     if (size < 256 || fits < 256) return 0;
     for (int i = 0; i < 16; i++) {
-        if (read_command(bytes + i * 16, size - i * 16, &commands[i], &reach).code != 0) {
+        struct stray stray;
+        if (read_command(bytes + i * 16, size - i * 16, &commands[i], &reach, &stray) != 0) {
             commands[i].flag = false;
             commands[i].kind = TLM_FLUSH;
         }
     }
     for (uint32_t i = 0; i < times; i++) {
         size_t k = i % 16, n;
-        struct told t = write_command(&commands[k], room + k * 16, fits - k * 16, &n);
-        sum = t.code == 0 ? mixed(sum, n) : with_told(sum, t);
+        struct stray stray = { 0 };
+        uint8_t code = write_command(&commands[k], room + k * 16, fits - k * 16, &n, &stray);
+        sum = code == 0 ? mixed(sum, n) : with_code(sum, code, &stray);
     }
     return sum;
 }
@@ -1021,13 +1050,21 @@ uint64_t plain_seconds(const uint8_t *list, size_t size, uint8_t *room, size_t f
 uint64_t plain_assemble(const uint8_t *text, size_t size, uint8_t *room, size_t fits, uint32_t times)
 {
     uint64_t sum = 0;
-    for (uint32_t i = 0; i < times; i++) sum = with_placed(sum, assembled(text, size, room, fits));
+    for (uint32_t i = 0; i < times; i++) {
+        struct stray stray = { 0 };
+        struct placed p = assembled(text, size, room, fits, &stray);
+        sum = with_placed(sum, p, &stray);
+    }
     return sum;
 }
 
 uint64_t plain_list(const uint8_t *list, size_t size, uint8_t *room, size_t fits, uint32_t times)
 {
     uint64_t sum = 0;
-    for (uint32_t i = 0; i < times; i++) sum = with_placed(sum, listed(list, size, room, fits));
+    for (uint32_t i = 0; i < times; i++) {
+        struct stray stray = { 0 };
+        struct placed p = listed(list, size, room, fits, &stray);
+        sum = with_placed(sum, p, &stray);
+    }
     return sum;
 }

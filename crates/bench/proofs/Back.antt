@@ -7,7 +7,7 @@ use lib.ListN.{length, take, drop}
 use lib.Dec.{eqb}
 use Rattle.wire.specs.declared.kinds.Command.{Command}
 use Rattle.wire.specs.declared.decoding.Reading.{Reading}
-use Rattle.wire.specs.Judge.{toldWith}
+use Rattle.wire.specs.Judge.{plain}
 use Rattle.wire.specs.Read.{Answer, answerOf, lengthOf, readCode, readOf, said}
 use Rattle.wire.specs.Write.{wroteAt, roomAfter}
 use Rattle.wire.proofs.Front.{Bytes}
@@ -29,7 +29,7 @@ command-read s c read =
 
 -- Written again it fills its 4L bytes with those that it was read from, and touches no other.
 pub command-again : (s : List ℕ) → Bytes s → (c : Command) → readOf s ≡ answerOf (Reading.Taken c) → (room : List ℕ) → lengthOf s * 4 ≤ length room
-    → (wroteAt c room ≡ record { told = toldWith 0 0; bytes = lengthOf s * 4 })
+    → (wroteAt c room ≡ record { told = plain 0; bytes = lengthOf s * 4 })
     × (roomAfter c room ≡ take (lengthOf s * 4) s ++ drop (lengthOf s * 4) room)
 command-again s bytes c read room enough =
     let says = command-read s c read in

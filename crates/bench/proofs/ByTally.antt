@@ -8,8 +8,10 @@ use borrow.Author.Tests.{eqb-true}
 use Rattle.wire.specs.declared.kinds.Command.{Command}
 use Rattle.wire.specs.declared.judging.Told.{Told}
 use Rattle.wire.specs.Codes.{Check, firstOf}
-use Rattle.wire.specs.Judge.{argChecks, toldWith, firstBadIn, parOf}
-use Rattle.wire.specs.Read.{answerFor, readChecks, said}
+use Rattle.wire.specs.Judge.{toldFor, argChecks}
+use Rattle.wire.specs.Read.{answerFor, readChecks, saidParts, said}
+use Rattle.wire.specs.Kind.{partsOf}
+use Rattle.wire.specs.declared.kinds.Parts.{Parts}
 use Rattle.wire.proofs.FirstOf.{Coded, first-append}
 use Rattle.store.specs.declared.Store.{Store}
 use Rattle.store.specs.declared.tally.Tally.{Tally}
@@ -38,14 +40,14 @@ module _ (b : Bench) (t : Tally) (good : GoodBench b) (is : Tallied (b .store) t
       ∙ sym (first-append rows (stateChecks b c) coded)
 
   -- Where code 0 says that a command is accepted, the answer with a code leads to the outcome with that code,
-  module _ (c : Command) (code : ℕ) (accepted : code ≡ 0 → Accepted b c) where
-    carried-for : carriedBy b t (answerFor code c) ≡ outcomeFor code b c
+  module _ (parts : Parts) (c : Command) (code : ℕ) (accepted : code ≡ 0 → Accepted b c) where
+    carried-for : carriedBy b t (answerFor code parts c) ≡ outcomeFor code parts b c
     carried-for = go (eqb code 0) refl
       where
         told : Told
-        told = toldWith code (parOf code (firstBadIn c))
+        told = toldFor code parts
 
-        go : (none : Bool) → eqb code 0 ≡ none → carriedBy b t (answerFor code c) ≡ outcomeFor code b c
+        go : (none : Bool) → eqb code 0 ≡ none → carriedBy b t (answerFor code parts c) ≡ outcomeFor code parts b c
         go true e =
             let passed = accepted (eqb-true code 0 e) in
             rw e
@@ -54,10 +56,10 @@ module _ (b : Bench) (t : Tally) (good : GoodBench b) (is : Tallied (b .store) t
         go false e = rw e
 
     -- and the tally is true of what that leaves.
-    tallied-for : Tallied (outcomeFor code b c .bench .store) (tallyBy t (answerFor code c .taken))
+    tallied-for : Tallied (outcomeFor code parts b c .bench .store) (tallyBy t (answerFor code parts c .taken))
     tallied-for = go (eqb code 0) refl
       where
-        go : (none : Bool) → eqb code 0 ≡ none → Tallied (outcomeFor code b c .bench .store) (tallyBy t (answerFor code c .taken))
+        go : (none : Bool) → eqb code 0 ≡ none → Tallied (outcomeFor code parts b c .bench .store) (tallyBy t (answerFor code parts c .taken))
         go true e =
             let passed = accepted (eqb-true code 0 e) in
             rw e (tallied-after (b .store) t (good-store b good) is c (passed .judge) (passed .permit))
@@ -67,16 +69,17 @@ module _ (b : Bench) (t : Tally) (good : GoodBench b) (is : Tallied (b .store) t
   pub carried-by : (c : Command) → carriedBy b t (decidedBy power t c) ≡ carryOut b c
   unfolding decidedBy carryOut
   carried-by c =
-      ap (λ n. carriedBy b t (answerFor n c)) (same-code c (argChecks c) (judge-coded c))
-      ∙ carried-for c (firstOf (commandChecks b c)) (judge-accepted b c)
-      ∙ ap (λ n. outcomeFor n b c) (judge-then b c ∙ sym (carry-code b c (good .sound)))
+      let parts = partsOf (c .kind) in
+      ap (λ n. carriedBy b t (answerFor n parts c)) (same-code c (argChecks c) (judge-coded c))
+      ∙ carried-for parts c (firstOf (commandChecks b c)) (judge-accepted b c)
+      ∙ ap (λ n. outcomeFor n parts b c) (judge-then b c ∙ sym (carry-code b c (good .sound)))
 
   -- the command at the front of some bytes,
   pub taken-by : (s : List ℕ) → carriedBy b t (decidedIn power t s) ≡ taken b s
   unfolding decidedIn taken
   taken-by s =
-      ap (λ n. carriedBy b t (answerFor n (said s))) (same-code (said s) (readChecks s) (read-coded s))
-      ∙ carried-for (said s) (firstOf (bytesChecks b s)) (read-accepted b s)
+      ap (λ n. carriedBy b t (answerFor n (saidParts s) (said s))) (same-code (said s) (readChecks s) (read-coded s))
+      ∙ carried-for (saidParts s) (said s) (firstOf (bytesChecks b s)) (read-accepted b s)
 
   pub carried-bytes-by : (s : List ℕ) → carriedBy b t (decidedIn power t s) ≡ carryOutBytes b s
   carried-bytes-by s = taken-by s ∙ sound-bytes b s (good .sound)
@@ -85,6 +88,6 @@ module _ (b : Bench) (t : Tally) (good : GoodBench b) (is : Tallied (b .store) t
   pub taken-tallied : (s : List ℕ) → Tallied (taken b s .bench .store) (tallyBy t (decidedIn power t s .taken))
   unfolding decidedIn taken
   taken-tallied s =
-      subst (λ n. Tallied (taken b s .bench .store) (tallyBy t (answerFor n (said s) .taken)))
+      subst (λ n. Tallied (taken b s .bench .store) (tallyBy t (answerFor n (saidParts s) (said s) .taken)))
       (sym (same-code (said s) (readChecks s) (read-coded s)))
-      (tallied-for (said s) (firstOf (bytesChecks b s)) (read-accepted b s))
+      (tallied-for (saidParts s) (said s) (firstOf (bytesChecks b s)) (read-accepted b s))

@@ -11,7 +11,8 @@ use Rattle.wire.specs.declared.table.Form.{Form}
 use Rattle.wire.specs.declared.kinds.Kind.{Kind}
 use Rattle.wire.specs.declared.kinds.Command.{Command}
 use Rattle.wire.specs.Table.{rowOf}
-use Rattle.wire.specs.Judge.{firstBad, firstBadIn, argChecks, judgeCode}
+use Rattle.wire.specs.Judge.{firstBad, badIn, argChecks, judgeCode}
+use Rattle.wire.specs.Kind.{partsOf}
 use Rattle.wire.proofs.Order.{due-none}
 use Rattle.frame.proofs.Laws.{region-within, mode-within}
 use Rattle.camera.specs.declared.Camera.{Camera}
@@ -52,9 +53,11 @@ camera-second c good =
     }
 
 -- An allowed command has no argument out of range.
-pub allowed-range : (c : Command) → judgeCode c ≡ 0 → firstBadIn c ≡ 0
+pub allowed-range : (c : Command) → judgeCode c ≡ 0 → badIn (partsOf (c .kind)) ≡ 0
 unfolding judgeCode
-allowed-range c h = eqb-true (firstBadIn c) 0 (not-false (eqb (firstBadIn c) 0) (due-none (argChecks c) refl h .0))
+allowed-range c h =
+    let bad = badIn (partsOf (c .kind)) in
+    eqb-true bad 0 (not-false (eqb bad 0) (due-none (argChecks c) refl h .0))
 
 second-in : (a b : Bool) → _≡_ {A = ℕ} (cond a (cond b 0 2) 1) 0 → b ≡ true
 second-in true true e = refl
@@ -80,7 +83,7 @@ pub executed-good : (c : Camera) → GoodCamera c → (flag : Bool) (kind : Kind
     → GoodCamera (executedOf c kind)
 executed-good c good flag kind h = go kind (allowed-range (record { flag = flag; kind = kind }) h)
   where
-    go : (kind : Kind) → firstBadIn (record { flag = flag; kind = kind }) ≡ 0 → GoodCamera (executedOf c kind)
+    go : (kind : Kind) → badIn (partsOf kind) ≡ 0 → GoodCamera (executedOf c kind)
     go (Kind.ImgPwr mode) e = modes-good c good (isOn mode) (c .auto) (c .looping) (c .flushes)
     go (Kind.ImgRegion x y) e =
         record {

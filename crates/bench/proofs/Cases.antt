@@ -12,7 +12,8 @@ use Rattle.words.specs.BigEndian.{bytesOf}
 use Rattle.words.specs.Text.{ascii}
 use Rattle.wire.specs.declared.table.Form.{Form}
 use Rattle.wire.specs.declared.kinds.Kind.{Kind}
-use Rattle.wire.specs.Judge.{toldWith, judgeCode}
+use Rattle.wire.specs.declared.judging.Stray.{Stray}
+use Rattle.wire.specs.Judge.{strayWith, noStray, toldWith, plain, judgeCode}
 use Rattle.wire.specs.Read.{sumOf, readOf, spanOf}
 use Rattle.wire.specs.Write.{commandBytes, listBytes}
 use Rattle.frame.specs.Rules.{frameRule}
@@ -44,10 +45,10 @@ use Rattle.bench.specs.Events.{Event, bytes, after}
 pub data Case : Type 0 where
   -- after some commands (none: a fresh bench) a command: its words, its flag and kind, then its code and the whole bench that it leaves
   command : List (List ℕ) → List ℕ → Bool → Kind → ℕ → Bench → Case
-  -- words that are refused as they are read, with this code and parameter; a fresh bench stays fresh
-  misread : List ℕ → ℕ → ℕ → Case
-  -- a decoded command that a fresh bench answers with this code and parameter, and the whole bench that it leaves
-  decoded : Kind → ℕ → ℕ → Bench → Case
+  -- words that are refused as they are read, with this code and what is told of the number; a fresh bench stays fresh
+  misread : List ℕ → ℕ → Stray → Case
+  -- a decoded command that a fresh bench answers with this code and what is told of the number, and the whole bench that it leaves
+  decoded : Kind → ℕ → Stray → Bench → Case
   -- after these commands: the count of images as each second ends
   counts : List (List ℕ) → List ℕ → Case
   -- after these commands: the length of macro m
@@ -75,13 +76,14 @@ told show b (suc n) = show (secondAt b) ∷ told show (secondAt b .bench) n
 -- What a case claims.
 abbrev pub Claim : Case → Type 0
 Claim (command before words flag kind code bench) =
-    (readOf (bytesOf words) ≡ record { told = toldWith 0 0; taken = record { flag = flag; kind = kind } ∷ [] })
+    (readOf (bytesOf words) ≡ record { told = plain 0; taken = record { flag = flag; kind = kind } ∷ [] })
     × (commandBytes (record { flag = flag; kind = kind }) ≡ bytesOf words)
-    × (carryOutBytes (benchOf before) (bytesOf words) ≡ record { told = toldWith code 0; bench = bench })
-Claim (misread words code par) =
-    (readOf (bytesOf words) ≡ record { told = toldWith code par; taken = [] })
-    × (carryOutBytes freshBench (bytesOf words) ≡ record { told = toldWith code par; bench = freshBench })
-Claim (decoded kind code par bench) = carryOut freshBench (record { flag = false; kind = kind }) ≡ record { told = toldWith code par; bench = bench }
+    × (carryOutBytes (benchOf before) (bytesOf words) ≡ record { told = plain code; bench = bench })
+Claim (misread words code stray) =
+    (readOf (bytesOf words) ≡ record { told = toldWith code stray; taken = [] })
+    × (carryOutBytes freshBench (bytesOf words) ≡ record { told = toldWith code stray; bench = freshBench })
+Claim (decoded kind code stray bench) =
+    carryOut freshBench (record { flag = false; kind = kind }) ≡ record { told = toldWith code stray; bench = bench }
 Claim (counts commands images) = told (λ s. s .bench .camera .image .count) (benchOf commands) (length images) ≡ images
 Claim (lasts commands m seconds) = length (writtenOut (benchOf commands .store) m) ≡ seconds
 Claim (hands commands kinds) = told (λ s. s .handed) (benchOf commands) (length kinds) ≡ kinds
@@ -170,21 +172,23 @@ cases =
     ∷ counts (power-on ∷ image ∷ []) (1 ∷ 1 ∷ 2 ∷ 2 ∷ 3 ∷ 3 ∷ 3 ∷ [])
     -- Q-3: the same image on a fresh bench, whose power is off.
     ∷ command [] image false (Kind.ImgImage 5 2) 26 freshBench
-    -- 01500003 00050000 01550003: code 8, parameter 2.
-    ∷ misread (0x01500003 ∷ 0x00050000 ∷ 0x01550003 ∷ []) 8 2
+    -- 01500003 00050000 01550003: code 8, parameter 2. ("the value found and the lowest and highest allowed": 02, Q-6.)
+    ∷ misread (0x01500003 ∷ 0x00050000 ∷ 0x01550003 ∷ []) 8 (strayWith 2 0 1 65535)
     -- 01530004 43ffc000 00000000 42acc004: goal 511.5, 0.
     ∷ command [] (0x01530004 ∷ 0x43ffc000 ∷ 0x00000000 ∷ 0x42acc004 ∷ []) false (Kind.TrkGoal half nought) 0
     (showing (withGoal freshCamera 0x43ffc000 0))
-    -- Goal bits 447fffff allowed, 44800000 and 7fc00000 not.
+    -- Goal bits 447fffff allowed, 44800000 and 7fc00000 not. (Q-6: "For goals all three are bits, the ends 0 and 0x447fffff.")
     ∷ command [] (0x01530004 ∷ 0x447fffff ∷ 0x447fffff ∷ 0x01530004 ∷ []) false (Kind.TrkGoal below below) 0
     (showing (withGoal freshCamera 0x447fffff 0x447fffff))
-    ∷ misread (0x01530004 ∷ 0x44800000 ∷ 0x00000000 ∷ 0x45d30004 ∷ []) 8 1
-    ∷ misread (0x01530004 ∷ 0x00000000 ∷ 0x44800000 ∷ 0x45d30004 ∷ []) 8 2
-    ∷ misread (0x01530004 ∷ 0x7fc00000 ∷ 0x00000000 ∷ 0x7e930004 ∷ []) 8 1
-    ∷ misread (0x01530004 ∷ 0x00000000 ∷ 0x7fc00000 ∷ 0x7e930004 ∷ []) 8 2
-    ∷ decoded (Kind.TrkGoal below below) 0 0 (showing (withGoal freshCamera 0x447fffff 0x447fffff))
-    ∷ decoded (Kind.TrkGoal limit nought) 8 1 freshBench
-    ∷ decoded (Kind.TrkGoal nought nan) 8 2 freshBench
+    ∷ misread (0x01530004 ∷ 0x44800000 ∷ 0x00000000 ∷ 0x45d30004 ∷ []) 8 (strayWith 1 0x44800000 0 0x447fffff)
+    ∷ misread (0x01530004 ∷ 0x00000000 ∷ 0x44800000 ∷ 0x45d30004 ∷ []) 8 (strayWith 2 0x44800000 0 0x447fffff)
+    ∷ misread (0x01530004 ∷ 0x7fc00000 ∷ 0x00000000 ∷ 0x7e930004 ∷ []) 8 (strayWith 1 0x7fc00000 0 0x447fffff)
+    ∷ misread (0x01530004 ∷ 0x00000000 ∷ 0x7fc00000 ∷ 0x7e930004 ∷ []) 8 (strayWith 2 0x7fc00000 0 0x447fffff)
+    -- Q-6: another not-a-number, told bit for bit; decoded, each is told as 7fc00000.
+    ∷ misread (0x01530004 ∷ 0x7f800001 ∷ 0x00000000 ∷ 0x7ed30005 ∷ []) 8 (strayWith 1 0x7f800001 0 0x447fffff)
+    ∷ decoded (Kind.TrkGoal below below) 0 noStray (showing (withGoal freshCamera 0x447fffff 0x447fffff))
+    ∷ decoded (Kind.TrkGoal limit nought) 8 (strayWith 1 0x44800000 0 0x447fffff) freshBench
+    ∷ decoded (Kind.TrkGoal nought nan) 8 (strayWith 2 0x7fc00000 0 0x447fffff) freshBench
     -- 7f010003 03000000 7c010003: OPEN 3. 7f048003 00020000 7f068003: appended WAIT 2.
     -- (OPEN 3 opens macro 3. WAIT 2 is refused where none is open, and behind OPEN 3 it is stored as macro 3's first entry. Nothing else changes.)
     ∷ command [] open3 false (Kind.Open 3) 0 (holding [] (replicate 8 0) 3)
@@ -202,7 +206,7 @@ cases =
     ∷ command long (0x7f020002 ∷ 0x7f020002 ∷ []) false Kind.Close 15
     (holding (headOf Form.Wait true ∷ 600 ∷ 0 ∷ headOf Form.TlmFlush true ∷ 0 ∷ 0 ∷ []) (2 ∷ 0 ∷ 0 ∷ 0 ∷ 0 ∷ 0 ∷ 0 ∷ 0 ∷ []) 0)
     -- Q-1: "Empty lines and lines that begin with `#` carry no command but are counted." (No macro is open, so the append on line 4 gets 11.)
-    ∷ typed "# my first list\nimg_region 512 256\n\n+tlm_flush\n" (recordBytes 2 0 0 2 ++ recordBytes 2 11 0 4)
+    ∷ typed "# my first list\nimg_region 512 256\n\n+tlm_flush\n" (recordBytes 2 0 0 2 0 ++ recordBytes 2 11 0 4 0)
     ∷ []
 
 -- One proof beside the others.
@@ -225,6 +229,7 @@ cases-hold =
     also (refl, refl)
     also (refl, refl, refl)
     also (refl, refl, refl)
+    also (refl, refl)
     also (refl, refl)
     also (refl, refl)
     also (refl, refl)

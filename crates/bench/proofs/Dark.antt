@@ -14,7 +14,8 @@ use Rattle.words.proofs.Tests.{both}
 use Rattle.wire.specs.declared.kinds.Kind.{Kind}
 use Rattle.wire.specs.declared.kinds.Command.{Command}
 use Rattle.wire.specs.Codes.{firstOf}
-use Rattle.wire.specs.Judge.{toldWith, judgeCode, argChecks}
+use Rattle.wire.specs.Judge.{plain, argChecks, judgeCode}
+use Rattle.wire.specs.Kind.{partsOf}
 use Rattle.wire.proofs.FirstOf.{first-append}
 use Rattle.wire.proofs.Order.{NoneDue, due-none}
 use Rattle.camera.specs.declared.Camera.{Camera}
@@ -200,7 +201,7 @@ executing k = record { flag = false; kind = k }
 -- What is said of the entry at place i, of this kind and with this code.
 pub record Entry (b : Bench) (i : ℕ) (kind : Kind) (code : ℕ) : Type 0 where
   -- It is answered, and takes effect, as the same command is and does when it is executed on the bench that the entry finds.
-  pub as-executed : carryOut (foundBy b i) (executing kind) ≡ record { told = toldWith code 0; bench = foundBy b (suc i) }
+  pub as-executed : carryOut (foundBy b i) (executing kind) ≡ record { told = plain code; bench = foundBy b (suc i) }
   -- Its code is 0 or 26.
   pub two-codes : (code ≡ 0) ⊎ (code ≡ 26)
   -- "it has no effect": with code 26 it leaves the camera, and all else, as it was,
@@ -234,22 +235,22 @@ plain-applied s k role = rw role
 -- Executed on a sound bench, such a kind gets the code that an entry has, and does to the camera what an entry does.
 plain-carried : (b : Bench) → GoodBench b → (k : Kind) → Plain k
     → carryOut b (executing k)
-    ≡ record { told = toldWith (handedCode (b .camera) k) 0; bench = record { camera = handedTo (b .camera) k; store = b .store } }
+    ≡ record { told = plain (handedCode (b .camera) k); bench = record { camera = handedTo (b .camera) k; store = b .store } }
 unfolding carryOut
-plain-carried b good k plain = ap (λ n. outcomeFor n b (executing k)) code ∙ go (dark (b .camera .power) k)
+plain-carried b good k is = ap (λ n. outcomeFor n (partsOf k) b (executing k)) code ∙ go (dark (b .camera .power) k)
   where
     code : carryCode b (executing k) ≡ handedCode (b .camera) k
     code =
         carry-code b (executing k) (good .sound)
-        ∙ rw (plain-judged k (plain .role) (plain .allowed))
-        (behind-code b (executing k) ∙ ap (λ n. cond (dark (b .camera .power) k) 26 n) (plain-permitted (b .store) k (plain .role)))
+        ∙ rw (plain-judged k (is .role) (is .allowed))
+        (behind-code b (executing k) ∙ ap (λ n. cond (dark (b .camera .power) k) 26 n) (plain-permitted (b .store) k (is .role)))
 
-    go : (none : Bool) → outcomeFor (cond none 26 0) b (executing k)
-        ≡ record { told = toldWith (cond none 26 0) 0; bench = record { camera = cond none (b .camera) (executedOf (b .camera) k); store = b .store } }
+    go : (none : Bool) → outcomeFor (cond none 26 0) (partsOf k) b (executing k)
+        ≡ record { told = plain (cond none 26 0); bench = record { camera = cond none (b .camera) (executedOf (b .camera) k); store = b .store } }
     go true = refl
     go false =
-        ap (λ (s : Store). record { told = toldWith 0 0; bench = record { camera = executedOf (b .camera) k; store = s } })
-        (plain-applied (b .store) k (plain .role))
+        ap (λ (s : Store). record { told = plain 0; bench = record { camera = executedOf (b .camera) k; store = s } })
+        (plain-applied (b .store) k (is .role))
 
 -- Every bench that an entry finds is sound.
 all-take : (ks : List Kind) (i : ℕ) → All Plain ks → All Plain (take i ks)
@@ -272,8 +273,8 @@ module _ (b : Bench) (good : GoodBench b) where
   unfolding secondAt
   codes-are = rw (good .sound)
 
-  plain : All Plain (secondAt b .handed)
-  plain = subst (All Plain) (sym handed-is) (handed-plainly (b .store) (facts-of b good .store))
+  all-plain : All Plain (secondAt b .handed)
+  all-plain = subst (All Plain) (sym handed-is) (handed-plainly (b .store) (facts-of b good .store))
 
   found-good : (i : ℕ) → GoodBench (foundBy b i)
   found-good i =
@@ -283,7 +284,7 @@ module _ (b : Bench) (good : GoodBench b) where
       (record {
         camera =
             handed-good (cameraSecond (b .camera)) (camera-second (b .camera) (h .camera)) (take i (secondAt b .handed))
-            (all-take (secondAt b .handed) i plain);
+            (all-take (secondAt b .handed) i all-plain);
         store = rw kept (second-keeps (b .store) (h .store));
       })
 
@@ -312,9 +313,9 @@ module _ (b : Bench) (good : GoodBench b) where
     code-is =
         ap (λ l. getD l i 0) codes-are ∙ place-code (cameraSecond (b .camera)) (secondAt b .handed) i none there
 
-    executed-there : carryOut (foundBy b i) (executing kind) ≡ record { told = toldWith code 0; bench = foundBy b (suc i) }
+    executed-there : carryOut (foundBy b i) (executing kind) ≡ record { told = plain code; bench = foundBy b (suc i) }
     executed-there =
-        plain-carried (foundBy b i) (found-good i) kind (plain-at (secondAt b .handed) i none there plain)
+        plain-carried (foundBy b i) (found-good i) kind (plain-at (secondAt b .handed) i none there all-plain)
         ∙ rw (code-is, place-camera (cameraSecond (b .camera)) (secondAt b .handed) i none there)
 
     either : (t : Bool) → _≡_ {A = ℕ} (cond t 26 0) 0 ⊎ _≡_ {A = ℕ} (cond t 26 0) 26

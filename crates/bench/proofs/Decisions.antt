@@ -10,30 +10,33 @@ use Rattle.wire.specs.declared.judging.Refusal.{Refusal}
 use Rattle.wire.specs.declared.judging.Told.{Told}
 use Rattle.wire.specs.declared.decoding.Reading.{Reading}
 use Rattle.wire.specs.Codes.{firstOf}
-use Rattle.wire.specs.Judge.{toldWith, toldOf, judged, judgeCode, argChecks, firstBadIn, parOf}
-use Rattle.wire.specs.Read.{Answer, answerOf, answerFor, readCode, readOf, readChecks, said}
+use Rattle.wire.specs.Judge.{plain, toldOf, toldFor, argChecks, judgeCode, judged}
+use Rattle.wire.specs.Read.{Answer, answerOf, answerFor, readCode, readOf, readChecks, saidParts, said}
+use Rattle.wire.specs.Kind.{partsOf}
+use Rattle.wire.specs.declared.kinds.Parts.{Parts}
 use Rattle.wire.proofs.FirstOf.{first-append}
 use Rattle.wire.proofs.Answers.{refusal-code}
+use Rattle.wire.proofs.Parameters.{other-told}
 use Rattle.store.specs.declared.checks.Denial.{Denial}
 use Rattle.store.specs.declared.checks.Permit.{Permit}
 use Rattle.store.specs.declared.tally.Tally.{Tally}
 use Rattle.store.specs.Checks.{codeOf, toldPermit}
 use Rattle.store.specs.TallySteps.{tallyCode}
 use Rattle.bench.specs.Carry.{row26}
-use Rattle.bench.specs.Steps.{behindChecks, permittedBy, decidedBy, decidedIn}
+use Rattle.bench.specs.Steps.{behindChecks, permittedWith, permittedBy, decidedBy, decidedIn}
 use Rattle.bench.proofs.Outcomes.{judge-coded, read-coded}
 
--- What a refusal says: its code and parameter, and no command.
+-- What a refusal says: what it tells, and no command.
 abbrev none : Told → Answer
 none told = record { told = told; taken = [] }
 
 -- Refused by rows 1 to 10.
-misread : (c : Command) (code : ℕ) (r : Refusal) → toldOf r ≡ toldWith code (parOf code (firstBadIn c)) → none (toldOf r) ≡ answerFor code c
-misread c code r e =
+misread : (parts : Parts) (c : Command) (code : ℕ) (r : Refusal) → toldOf r ≡ toldFor code parts → none (toldOf r) ≡ answerFor code parts c
+misread parts c code r e =
     let other : eqb code 0 ≡ false = rw (ap (λ (t : Told). t .code) e) at (refusal-code r) in
     rw (e, other)
 
-denial-none : (c : Command) (d : Denial) → none (toldWith (codeOf d) 0) ≡ answerFor (codeOf d) c
+denial-none : (c : Command) (d : Denial) → none (plain (codeOf d)) ≡ permittedWith (codeOf d) c
 denial-none c Denial.NoneOpen = refl
 denial-none c Denial.AnotherOpen = refl
 denial-none c Denial.AlreadyClosed = refl
@@ -47,7 +50,7 @@ denial-none c Denial.Running = refl
 
 -- Row 26 and the store's: in the dark, denied, or granted.
 module _ (power : Bool) (t : Tally) (c : Command) where
-  pub in-dark : row26 power (c .flag) (c .kind) ≡ true → none (toldWith 26 0) ≡ permittedBy power t c
+  pub in-dark : row26 power (c .flag) (c .kind) ≡ true → none (plain 26) ≡ permittedBy power t c
   unfolding permittedBy
   in-dark e = rw e
 
@@ -56,17 +59,22 @@ module _ (power : Bool) (t : Tally) (c : Command) where
     unfolding tallyCode
     by-tally = rw lit
 
-    pub denied : (d : Denial) → toldPermit (Permit.Denied d) ≡ tallyCode t c → none (toldWith (codeOf d) 0) ≡ permittedBy power t c
+    pub denied : (d : Denial) → toldPermit (Permit.Denied d) ≡ tallyCode t c → none (plain (codeOf d)) ≡ permittedBy power t c
     unfolding permittedBy
-    denied d e = denial-none c d ∙ ap (λ n. answerFor n c) (e ∙ sym by-tally)
+    denied d e = denial-none c d ∙ ap (λ n. permittedWith n c) (e ∙ sym by-tally)
 
     pub granted : toldPermit Permit.Granted ≡ tallyCode t c → answerOf (Reading.Taken c) ≡ permittedBy power t c
     unfolding permittedBy
-    granted e = ap (λ n. answerFor n c) (e ∙ sym by-tally)
+    granted e = ap (λ n. permittedWith n c) (e ∙ sym by-tally)
 
 module _ (power : Bool) (t : Tally) where
   abbrev behind : Command → ℕ
   behind c = firstOf (behindChecks power t c)
+
+  -- They ask for no number.
+  behind-for : (parts : Parts) (c : Command) → permittedWith (behind c) c ≡ answerFor (behind c) parts c
+  behind-for parts c =
+      ap (λ told. record { told = told; taken = cond (eqb (behind c) 0) (c ∷ []) [] }) (sym (other-told parts (behindChecks power t c) refl))
 
   -- Those rows speak where the rows of judging, or of reading, all passed.
   judge-first : (c : Command) → firstOf (argChecks c ++ behindChecks power t c) ≡ cond (eqb (judgeCode c) 0) (behind c) (judgeCode c)
@@ -83,23 +91,23 @@ module _ (power : Bool) (t : Tally) where
   judged-refused c r e =
       let other : eqb (judgeCode c) 0 ≡ false = rw (ap (λ (t : Told). t .code) e) at (refusal-code r) in
       let code : firstOf (argChecks c ++ behindChecks power t c) ≡ judgeCode c = rw (judge-first c, other) in
-      misread c (judgeCode c) r e ∙ ap (λ n. answerFor n c) (sym code)
+      misread (partsOf (c .kind)) c (judgeCode c) r e ∙ ap (λ n. answerFor n (partsOf (c .kind)) c) (sym code)
 
-  pub judged-passed : (c : Command) → toldWith 0 0 ≡ judged c → permittedBy power t c ≡ decidedBy power t c
+  pub judged-passed : (c : Command) → plain 0 ≡ judged c → permittedBy power t c ≡ decidedBy power t c
   unfolding decidedBy permittedBy
   judged-passed c e =
       let zero : judgeCode c ≡ 0 = sym (ap (λ (t : Told). t .code) e) in
       let code : firstOf (argChecks c ++ behindChecks power t c) ≡ behind c = rw (judge-first c, zero) in
-      ap (λ n. answerFor n c) (sym code)
+      behind-for (partsOf (c .kind)) c ∙ ap (λ n. answerFor n (partsOf (c .kind)) c) (sym code)
 
   -- The command at the front of some bytes: refused by 1 to 10, or what those rows say of the command that was read.
   pub read-refused : (s : List ℕ) (r : Refusal) → answerOf (Reading.Refused r) ≡ readOf s → none (toldOf r) ≡ decidedIn power t s
   unfolding decidedIn readOf
   read-refused s r e =
-      let told : toldOf r ≡ toldWith (readCode s) (parOf (readCode s) (firstBadIn (said s))) = ap (λ (a : Answer). a .told) e in
+      let told : toldOf r ≡ toldFor (readCode s) (saidParts s) = ap (λ (a : Answer). a .told) e in
       let other : eqb (readCode s) 0 ≡ false = rw (ap (λ (t : Told). t .code) told) at (refusal-code r) in
       let code : firstOf (readChecks s ++ behindChecks power t (said s)) ≡ readCode s = rw (read-first s, other) in
-      misread (said s) (readCode s) r told ∙ ap (λ n. answerFor n (said s)) (sym code)
+      misread (saidParts s) (said s) (readCode s) r told ∙ ap (λ n. answerFor n (saidParts s) (said s)) (sym code)
 
   pub read-passed : (s : List ℕ) (c : Command) → answerOf (Reading.Taken c) ≡ readOf s → permittedBy power t c ≡ decidedIn power t s
   unfolding decidedIn readOf permittedBy
@@ -109,4 +117,4 @@ module _ (power : Bool) (t : Tally) where
       let one : c ∷ [] ≡ said s ∷ [] = rw zero at both in
       let same : c ≡ said s = cc in
       let code : firstOf (readChecks s ++ behindChecks power t (said s)) ≡ behind (said s) = rw (read-first s, zero) in
-      ap (permittedBy power t) same ∙ ap (λ n. answerFor n (said s)) (sym code)
+      ap (permittedBy power t) same ∙ behind-for (saidParts s) (said s) ∙ ap (λ n. answerFor n (saidParts s) (said s)) (sym code)

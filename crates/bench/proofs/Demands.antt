@@ -17,14 +17,15 @@ use Rattle.wire.specs.declared.kinds.Kind.{Kind}
 use Rattle.wire.specs.declared.kinds.Command.{Command}
 use Rattle.wire.specs.declared.decoding.Reading.{Reading}
 use Rattle.wire.specs.Codes.{_when_}
-use Rattle.wire.specs.Judge.{toldWith}
-use Rattle.wire.specs.Read.{lengthOf, answerOf, readChecks, readOf, said}
+use Rattle.wire.specs.Judge.{plain}
+use Rattle.wire.specs.Read.{lengthOf, answerOf, readChecks, readOf, saidParts, said}
 use Rattle.wire.specs.Write as writing
+use Rattle.wire.specs.Kind.{partsOf}
 use Rattle.wire.proofs.Order.{NoneDue, Order, read-order, write-order}
 use Rattle.wire.proofs.Front.{Bytes}
 use Rattle.wire.proofs.RoundTrip.{Held}
 use Rattle.wire.proofs.Calls as commands
-use Rattle.wire.proofs.Parameters.{Parameter}
+use Rattle.wire.proofs.Parameters.{SomeOut, Parameter}
 use Rattle.frame.specs.declared.Frame.{Frame}
 use Rattle.frame.specs.Bytes.{frameBytes}
 use Rattle.frame.specs.Answers as frames
@@ -46,6 +47,7 @@ use Rattle.text.specs.Lister as lister
 use Rattle.text.specs.Shown.{lineShown}
 use Rattle.text.proofs.LineOrder.{InOrder, line-order}
 use Rattle.text.proofs.FirstFinding.{FindsFirst, first-found}
+use Rattle.text.proofs.Parameters.{partsOfLine, partsOfCommand, assembled-parameter, listed-parameter}
 use Rattle.text.proofs.Calls as texts
 use Rattle.text.proofs.Calls.{textIn, listIn}
 use Rattle.store.specs.declared.roles.Role.{Role}
@@ -72,7 +74,7 @@ use Rattle.bench.proofs.FreeEntries.{free-answers}
 use Rattle.bench.proofs.MacroRun.{runCommand, run-begins, run-accepted, run-accepted-bytes, begun-sound, run-begins-within}
 use Rattle.bench.proofs.MacroRun.{stays-idle, idle-hands, now-runs, now-hands, next-says, next-idle}
 use Rattle.bench.proofs.Outcomes.{sound-bytes}
-use Rattle.bench.proofs.Report.{Carries, restAt, benchAt, recordAt, eventsOf, Untouched, record-carries, kit-record, pupil-record}
+use Rattle.bench.proofs.Report.{Carries, RecordedIn, restAt, recordAt, eventsOf, Untouched, record-carries, record-recorded, kit-record, pupil-record}
 use Rattle.bench.proofs.Report.{kit-verdict, pupil-verdict, run-leaves, run-accepts, run-reaches, refused-leaves, shown-judged}
 use Rattle.bench.proofs.TypedReport as reports
 use Rattle.bench.proofs.LineShown.{line-says}
@@ -164,9 +166,9 @@ demand-1-write-command c room refused = commands.refused-leaves c room refused
 pub demand-1-write-frame : (f : Frame) (room : List ℕ) → frames.writeCode f room ≢ 0 → frames.roomAfter f room ≡ room
 demand-1-write-frame f room refused = frame-calls.refused-leaves f room refused
 
-pub demand-1-put-record : (sender code par number : ℕ) (room : List ℕ) → putCode (recordBytes sender code par number) room ≢ 0
-    → written (recordBytes sender code par number) room ≡ room
-demand-1-put-record sender code par number room refused = records.refused-leaves sender code par number room refused
+pub demand-1-put-record : (sender code par number value : ℕ) (room : List ℕ) → putCode (recordBytes sender code par number value) room ≢ 0
+    → written (recordBytes sender code par number value) room ≡ room
+demand-1-put-record sender code par number value room refused = records.refused-leaves sender code par number value room refused
 
 pub demand-1-assemble : (text room : List ℕ) → typing.assembledAs text room .found .told .code ≢ 0 → typing.roomAfter text room ≡ room
 demand-1-assemble text room refused = texts.refused-assembling text room refused
@@ -184,11 +186,11 @@ demand-1-list-text raw room refused = texts.refused-listing raw room refused
 -- wire, specs/Table. On a sound bench a command is accepted and takes its effect exactly when no row holds. (Every bench that can be reached is
 -- sound: see the end of this file.)
 pub demand-2-taken : (b : Bench) → benchSound b ≡ true → (c : Command)
-    → (carryOut b c ≡ record { told = toldWith 0 0; bench = effectOf b c }) ↔ NoneDue (commandChecks b c)
+    → (carryOut b c ≡ record { told = plain 0; bench = effectOf b c }) ↔ NoneDue (commandChecks b c)
 demand-2-taken b sound c = rows.command-taken b sound c
 
 pub demand-2-taken-bytes : (b : Bench) → benchSound b ≡ true → (s : List ℕ)
-    → (carryOutBytes b s ≡ record { told = toldWith 0 0; bench = effectOf b (said s) }) ↔ NoneDue (bytesChecks b s)
+    → (carryOutBytes b s ≡ record { told = plain 0; bench = effectOf b (said s) }) ↔ NoneDue (bytesChecks b s)
 demand-2-taken-bytes b sound s = rows.bytes-taken b sound s
 
 -- "Otherwise it gets the one code that stands first in the order of checks,"
@@ -207,13 +209,39 @@ demand-2-dark b sound c = dark.dark-exactly b sound c
 pub demand-2-dark-alone : (b : Bench) (c : Command) → row26 (b .camera .power) (c .flag) (c .kind) ≡ true → NoneDue (storeChecks (b .store) c)
 demand-2-dark-alone b c due = dark.dark-alone b c due
 
--- The parameter beside it is 1 or 2 exactly with code 8, 2 only where the first argument is in range, and else 0: that is `Parameter` (wire,
--- proofs/Parameters).
-pub demand-2-parameter : (b : Bench) (c : Command) → Parameter c (carryOut b c .told)
+-- And 8 exactly where an argument is out of range; from bytes, where none of rows 1 to 7 is due besides.
+pub demand-2-range : (b : Bench) → benchSound b ≡ true → (c : Command) → (carryOut b c .told .code ≡ 8) ↔ SomeOut (partsOf (c .kind))
+demand-2-range b sound c = rows.command-eight b sound c
+
+pub demand-2-range-bytes : (b : Bench) → benchSound b ≡ true → (s : List ℕ)
+    → (carryOutBytes b s .told .code ≡ 8) ↔ (NoneDue (take 7 (readChecks s)) × SomeOut (saidParts s))
+demand-2-range-bytes b sound s = rows.bytes-eight b sound s
+
+-- What is told of the number beside it (02, Q-6) is `Parameter` (wire, proofs/Parameters): the parameter is 1 or 2 exactly with code 8, 2 only where
+-- the first argument is in range; the value is the argument that it names, from bytes bit for bit, it lies outside the limits told, and those are the
+-- table's; with every other code all four are 0.
+pub demand-2-parameter : (b : Bench) (c : Command) → Parameter (partsOf (c .kind)) (carryOut b c .told)
 demand-2-parameter b c = rows.command-parameter b c
 
-pub demand-2-parameter-bytes : (b : Bench) (s : List ℕ) → Parameter (said s) (carryOutBytes b s .told)
+pub demand-2-parameter-bytes : (b : Bench) (s : List ℕ) → Parameter (saidParts s) (carryOutBytes b s .told)
 demand-2-parameter-bytes b s = rows.bytes-parameter b s
+
+-- The same where a line of a text is refused, in a typed run, in assembling and, of a command, in listing: what is told is told of the line or command
+-- that the answer names, a line's numbers as they were typed.
+pub demand-2-parameter-line : (b : Bench) (kit text room : List ℕ)
+    → let found = typedOf b kit text room .found in
+    Parameter (partsOfLine text (found .number)) (found .told)
+demand-2-parameter-line b kit text room = reports.typed-parameter b kit text room
+
+pub demand-2-parameter-assemble : (text room : List ℕ)
+    → let found = typing.assembledAs text room .found in
+    Parameter (partsOfLine text (found .number)) (found .told)
+demand-2-parameter-assemble text room = assembled-parameter text room
+
+pub demand-2-parameter-list-text : (raw room : List ℕ)
+    → let found = lister.listedAs raw room .found in
+    Parameter (partsOfCommand raw (found .number)) (found .told)
+demand-2-parameter-list-text raw room = listed-parameter raw room
 
 -- "with the sender's own line number."
 -- In the room after a run that was carried out, record k + 1 of a sender carries that sender, the verdict on the command at place k of that sender's
@@ -261,34 +289,42 @@ demand-2-typed-line b kit text room accepted k there =
 pub demand-2-typed-run : (b : Bench) (kit text room : List ℕ) → typedOf b kit text room .found .told .code ≡ 0 → reports.SameRun b kit text room
 demand-2-typed-run b kit text room accepted = reports.same-run b kit text room accepted
 
--- So the parameter in byte 2 of every record says of that command what it should beside the code in byte 1.
-abbrev ParameterIn : List ℕ → List ℕ → Type 0
-ParameterIn record-bytes s = Parameter (said s) (toldWith (byteAt record-bytes 1) (byteAt record-bytes 2))
+-- So the parameter in byte 2 of every record, and the value in its last four bytes, say of that command what they should beside the code in byte 1.
 
 pub demand-2-parameter-kit : (b : Bench) → GoodBench b → (kit pupil room : List ℕ) → runOf b kit pupil room .code ≡ 0
-    → (k : ℕ) → k < length (rests kit) → ParameterIn (recordAt (roomAfter b kit pupil room) k) (restAt kit k)
+    → (k : ℕ) → k < length (rests kit) → RecordedIn (recordAt (roomAfter b kit pupil room) k) (restAt kit k)
 demand-2-parameter-kit b good kit pupil room accepted k there =
-    let carries = demand-2-kit b good kit pupil room accepted k there in
-    rw (carries .code, carries .par) (rows.bytes-parameter (after b (map bytes (take k (rests kit)))) (restAt kit k))
+    let state = after b (map bytes (take k (rests kit))) in
+    record-recorded (recordAt (roomAfter b kit pupil room) k) (restAt kit k) 1
+    (carryOutBytes state (restAt kit k) .told) (k + 1)
+    (demand-2-kit b good kit pupil room accepted k there)
+    (rows.bytes-parameter state (restAt kit k))
 
 pub demand-2-parameter-pupil : (b : Bench) → GoodBench b → (kit pupil room : List ℕ) → runOf b kit pupil room .code ≡ 0
-    → (k : ℕ) → k < length (rests pupil) → ParameterIn (recordAt (roomAfter b kit pupil room) (length (rests kit) + k)) (restAt pupil k)
+    → (k : ℕ) → k < length (rests pupil) → RecordedIn (recordAt (roomAfter b kit pupil room) (length (rests kit) + k)) (restAt pupil k)
 demand-2-parameter-pupil b good kit pupil room accepted k there =
-    let carries = demand-2-pupil b good kit pupil room accepted k there in
-    rw (carries .code, carries .par) (rows.bytes-parameter (after b (map bytes (rests kit ++ take k (rests pupil)))) (restAt pupil k))
+    let state = after b (map bytes (rests kit ++ take k (rests pupil))) in
+    record-recorded (recordAt (roomAfter b kit pupil room) (length (rests kit) + k)) (restAt pupil k) 2
+    (carryOutBytes state (restAt pupil k) .told) (k + 1)
+    (demand-2-pupil b good kit pupil room accepted k there)
+    (rows.bytes-parameter state (restAt pupil k))
 
 pub demand-2-parameter-typed-kit : (b : Bench) → GoodBench b → (kit text room : List ℕ) → typedOf b kit text room .found .told .code ≡ 0
-    → (k : ℕ) → k < length (rests kit) → ParameterIn (recordAt (typedRoom b kit text room) k) (restAt kit k)
+    → (k : ℕ) → k < length (rests kit) → RecordedIn (recordAt (typedRoom b kit text room) k) (restAt kit k)
 demand-2-parameter-typed-kit b good kit text room accepted k there =
-    let carries = demand-2-typed-kit b good kit text room accepted k there in
-    rw (carries .code, carries .par) (rows.bytes-parameter (after b (map bytes (take k (rests kit)))) (restAt kit k))
+    let state = after b (map bytes (take k (rests kit))) in
+    record-recorded (recordAt (typedRoom b kit text room) k) (restAt kit k) 1
+    (carryOutBytes state (restAt kit k) .told) (k + 1)
+    (demand-2-typed-kit b good kit text room accepted k there)
+    (rows.bytes-parameter state (restAt kit k))
 
--- A typed command passed rows 1 to 10 as its text was judged: its record has 0, a code from 11 to 19, 25 or 26, and no parameter.
+-- A typed command passed rows 1 to 10 as its text was judged: its record has 0, a code from 11 to 19, 25 or 26, and neither parameter nor value.
 pub demand-2-typed-codes : (b : Bench) (kit text room : List ℕ) → typedOf b kit text room .found .told .code ≡ 0
     → (k : ℕ) → k < length (rests (bytesIn text))
-    → let bytes = recordAt (typedRoom b kit text room) (length (rests kit) + k) in reports.OfState (toldWith (byteAt bytes 1) (byteAt bytes 2))
+    → let bytes = recordAt (typedRoom b kit text room) (length (rests kit) + k) in
+    reports.OfState (byteAt bytes 1) × ((byteAt bytes 2 ≡ 0) × (wordAt bytes 8 ≡ 0))
 demand-2-typed-codes b kit text room accepted k there =
-    rw (reports.pupil-record b kit text room accepted k there) (reports.typed-told (benchAt (kitPart b kit .bench) (bytesIn text) k) text k there)
+    reports.typed-codes b kit text room accepted k there
 
 -- The bytes shown for a sender and number are the very bytes that the record judged: alone they get the same verdict and leave the same bench.
 pub shown-are-judged : (kit pupil : List ℕ) → length kit ≤ 4096 → length pupil ≤ 4096 → (b : Bench) → benchSound b ≡ true → (sender k : ℕ)
@@ -309,7 +345,7 @@ demand-2-command-back c held room done = commands.write-then-read c held room do
 -- A command that was read is written as the 4L bytes that it was read from, into any room that has so many, and the rest of the room stays.
 pub demand-2-command-again : (s : List ℕ) → Bytes s → (c : Command) → readOf s ≡ answerOf (Reading.Taken c)
     → (room : List ℕ) → lengthOf s * 4 ≤ length room
-    → (writing.wroteAt c room ≡ record { told = toldWith 0 0; bytes = lengthOf s * 4 })
+    → (writing.wroteAt c room ≡ record { told = plain 0; bytes = lengthOf s * 4 })
     × (writing.roomAfter c room ≡ take (lengthOf s * 4) s ++ drop (lengthOf s * 4) room)
 demand-2-command-again s are c read room enough = command-again s are c read room enough
 
@@ -439,7 +475,7 @@ runs m w start good going short =
     }
 
 started : (b : Bench) → Reached b → b .store .running ≡ 255 → (m : ℕ) → isClosed (b .store) m ≡ true
-    → Started m (writtenOut (b .store) m) (record { told = toldWith 0 0; bench = effectOf b (runCommand m) })
+    → Started m (writtenOut (b .store) m) (record { told = plain 0; bench = effectOf b (runCommand m) })
 started b r free m closed =
     let good = reached-sound b r in
     let lasts = closed-lasts (b .store) (good-store b good) m closed in

@@ -11,7 +11,9 @@ use lib.Dec.{ltb}
 use borrow.Author.Tests.{ltb-true, ltb-false, eq-eqb, ne-eqb}
 use Rattle.wire.specs.declared.kinds.Command.{Command}
 use Rattle.wire.specs.Judge.{judgeCode}
-use Rattle.wire.specs.Read.{said}
+use Rattle.wire.specs.Read.{saidParts, said}
+use Rattle.wire.specs.Kind.{partsOf}
+use Rattle.wire.specs.declared.kinds.Parts.{Parts}
 use Rattle.wire.proofs.RoundTrip.{Held}
 use Rattle.store.specs.Roles.{isClear}
 use Rattle.store.specs.Pool.{freeIn, entriesOf}
@@ -72,8 +74,8 @@ module _ (b : Bench) (good : GoodBench b) (c : Command) where
         same-free (effectOf b c) b after good (other-free (b .store) (good-store b good) c (passed .judge) (passed .permit) flag no-clear)
 
   -- One with a code, of which 0 is acceptance.
-  by-code : (code : ℕ) → (code ≡ 0 → Accepted b c) → FreeAfter b c code (outcomeFor code b c .bench)
-  by-code code passes =
+  by-code : (parts : Parts) (code : ℕ) → (code ≡ 0 → Accepted b c) → FreeAfter b c code (outcomeFor code parts b c .bench)
+  by-code parts code passes =
       record {
         refused = λ some. rw (ne-eqb code 0 some);
         appended = λ none flag. rw (eq-eqb code 0 none) (append-takes (passes none) flag);
@@ -85,12 +87,12 @@ module _ (b : Bench) (good : GoodBench b) (c : Command) where
 pub command-free : (b : Bench) → GoodBench b → (c : Command) → FreeAfter b c (carryOut b c .told .code) (carryOut b c .bench)
 unfolding carryOut
 command-free b good c =
-    by-code b good c (carryCode b c) (λ none. judge-accepted b c (judge-then b c ∙ sym (carry-code b c (good .sound)) ∙ none))
+    by-code b good c (partsOf (c .kind)) (carryCode b c) (λ none. judge-accepted b c (judge-then b c ∙ sym (carry-code b c (good .sound)) ∙ none))
 
 pub bytes-free : (b : Bench) → GoodBench b → (s : List ℕ) → FreeAfter b (said s) (carryOutBytes b s .told .code) (carryOutBytes b s .bench)
 unfolding carryOutBytes
 bytes-free b good s =
-    by-code b good (said s) (carryBytesCode b s) (λ none. read-accepted b s (sym (carry-bytes-code b s (good .sound)) ∙ none))
+    by-code b good (said s) (saidParts s) (carryBytesCode b s) (λ none. read-accepted b s (sym (carry-bytes-code b s (good .sound)) ∙ none))
 
 -- An accepted append stands behind the entries that the open macro had, where the command is one that a program can hold, and leaves the entries of
 -- every other macro.

@@ -6,7 +6,7 @@ use mathlib.Core.Bool.{Bool, true, false}
 use lib.ListN.{length, take}
 use lib.Seq.{take-at}
 use Rattle.wire.specs.declared.kinds.Kind.{Kind}
-use Rattle.wire.specs.Judge.{toldWith}
+use Rattle.wire.specs.Judge.{plain}
 use Rattle.frame.specs.declared.Frame.{Frame}
 use Rattle.frame.specs.Rules.{frameRule}
 use Rattle.camera.specs.declared.Camera.{Camera}
@@ -88,7 +88,7 @@ no-second b unsound = rw unsound
 
 -- Nothing is handed over in it, and no code told.
 pub none-handed : (b : Bench) (group : Group) (codes : List ℕ) → group ≡ groupOf [] → codes ≡ codesShown []
-    → (record { told = toldWith 27 0; bench = b; handed = kindsIn group; codes = take (group .count) codes } ≡ stayedAt b)
+    → (record { told = plain 27; bench = b; handed = kindsIn group; codes = take (group .count) codes } ≡ stayedAt b)
     × (group ≡ groupOf [])
     × (codes ≡ codesShown [])
 none-handed b group codes none zeros = (rw none, none, zeros)
@@ -160,7 +160,7 @@ module _ (b : Bench) (step : Step) (rules : rulesHold b ≡ true) (stepped : ste
 
       pub second-passed :
           record {
-            told = toldWith 0 0;
+            told = plain 0;
             bench = record {
               camera = done .camera;
               store = storeWith (b .store .pool) (b .store .counts) (b .store .closed) (b .store .opened) (step .running) (step .left);

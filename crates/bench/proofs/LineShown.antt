@@ -9,7 +9,7 @@ use lib.Dec.{eqb}
 use borrow.Author.Tests.{le-leb, lt-ltb}
 use Rattle.wire.specs.declared.kinds.Command.{Command}
 use Rattle.wire.specs.Codes.{firstOf}
-use Rattle.wire.specs.Judge.{toldWith}
+use Rattle.wire.specs.Judge.{plain}
 use Rattle.wire.specs.Read.{Answer, said}
 use Rattle.wire.specs.Write.{listBytes}
 use Rattle.walk.specs.Walk.{rests}
@@ -42,7 +42,7 @@ unfolding lineOf
 line-few l = go (isBlank l) (typed-few (flagIn l) (wordsOf (bodyIn l)))
   where
     blank : Answer
-    blank = record { told = toldWith 0 0; taken = [] }
+    blank = record { told = plain 0; taken = [] }
 
     go : (t : Bool) → Few (typedAs (flagIn l) (wordsOf (bodyIn l)) .taken) → Few (cond t blank (typedAs (flagIn l) (wordsOf (bodyIn l))) .taken)
     go true few = none refl

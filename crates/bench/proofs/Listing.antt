@@ -11,9 +11,8 @@ use borrow.Rule.Slice.PartMut.{putMid}
 use Rattle.words.specs.BigEndian.{written}
 use Rattle.words.proofs.Laws.{with-room, part-written}
 use Rattle.wire.specs.declared.kinds.Command.{Command}
-use Rattle.wire.specs.declared.judging.Told.{Told}
 use Rattle.wire.specs.Read.{Answer}
-use Rattle.report.specs.Record.{recordBytes}
+use Rattle.report.specs.Record.{recordLength}
 use Rattle.store.specs.declared.tally.Tally.{Tally}
 use Rattle.store.specs.TallySteps.{storeOf, poolAfter, Tallied}
 use Rattle.bench.specs.declared.Bench.{Bench}
@@ -22,7 +21,7 @@ use Rattle.bench.specs.declared.Verdict.{Verdict}
 use Rattle.bench.specs.declared.deciding.Decision.{Decision}
 use Rattle.bench.specs.Carry.{Outcome, taken}
 use Rattle.bench.specs.Steps.{benchOf, worksAfter, AtWork, decisionOf, decidedIn, benchBy, tallyBy, carriedBy}
-use Rattle.bench.specs.Run.{Listed, runRests}
+use Rattle.bench.specs.Run.{recordOf, Listed, runRests}
 use Rattle.bench.proofs.Sound.{GoodBench, taken-good}
 use Rattle.bench.proofs.ByTally.{taken-by, taken-tallied}
 
@@ -32,14 +31,14 @@ written-both xs ys room fits =
     with-room (xs ++ ys) room (omega (arith, length-append xs ys))
     ∙ rw (with-room ys (drop (length xs) room) (omega (arith, length-drop (length xs) room)), drop-drop, length-append, append-assoc)
 
--- Eight bytes of a list that goes on.
-pub eight-within : (xs ys : List ℕ) (n : ℕ) → n + 8 ≤ length xs → take 8 (drop n (xs ++ ys)) ≡ take 8 (drop n xs)
-eight-within xs ys n fits =
-    ap (take 8) (drop-append-le n xs ys (omega arith)) ∙ take-append-le 8 (drop n xs) ys (omega (arith, length-drop n xs))
+-- The bytes of a record, of a list that goes on.
+pub record-within : (xs ys : List ℕ) (n : ℕ) → n + recordLength ≤ length xs → take recordLength (drop n (xs ++ ys)) ≡ take recordLength (drop n xs)
+record-within xs ys n fits =
+    ap (take recordLength) (drop-append-le n xs ys (omega arith)) ∙ take-append-le recordLength (drop n xs) ys (omega (arith, length-drop n xs))
 
--- The records of so many commands take 8 bytes each.
+-- The records of so many commands take 12 bytes each.
 pub records-long : (b : Bench) (sender : ℕ) (numbers : List ℕ) (rs : List (List ℕ)) → length numbers ≡ length rs
-    → length (runRests b sender numbers rs .records) ≡ 8 * length rs
+    → length (runRests b sender numbers rs .records) ≡ recordLength * length rs
 unfolding runRests
 records-long b sender [] [] even = refl
 records-long b sender [] (r ∷ rs) even = absurd (omega arith)
@@ -56,7 +55,7 @@ pub record Behind (all : Listed) (many sender : ℕ) (room₀ room : List ℕ) (
   pub even : length numbers ≡ length rs
   pub counted : n + length rs ≡ many
   pub state : runRests (benchOf w pool) sender numbers rs .bench ≡ all .bench
-  pub records : take (n * 8) room ++ written (runRests (benchOf w pool) sender numbers rs .records) (drop (n * 8) room) ≡ written (all .records) room₀
+  pub records : take (n * recordLength) room ++ written (runRests (benchOf w pool) sender numbers rs .records) (drop (n * recordLength) room) ≡ written (all .records) room₀
 
 -- The start.
 pub start : (w : Works) (pool : List ℕ) (sender : ℕ) (numbers : List ℕ) (rs : List (List ℕ)) (room : List ℕ) → GoodBench (benchOf w pool)
@@ -69,10 +68,9 @@ start w pool sender numbers rs room good is even =
 module _ {all : Listed} {many sender : ℕ} {room₀ room : List ℕ} {w : Works} {pool : List ℕ} {number : ℕ} {numbers r : List ℕ} {rs : List (List ℕ)}
     {n : ℕ}
     (behind : Behind all many sender room₀ room w pool (number ∷ numbers) (r ∷ rs) n)
-    (fits : many * 8 ≤ length room₀) (decision : Decision) {told : Told} {part : List ℕ}
+    (fits : many * recordLength ≤ length room₀) (decision : Decision) {part : List ℕ}
     (decided : decisionOf decision ≡ decidedIn (w .camera .power) (w .tally) r)
-    (tells : told ≡ decisionOf decision .told)
-    (put : part ≡ written (recordBytes sender (told .code) (told .par) number) (take (length room - n * 8) (drop (n * 8) room))) where
+    (put : part ≡ written (recordOf sender (decisionOf decision .told) number) (take (length room - n * recordLength) (drop (n * recordLength) room))) where
   abbrev b : Bench
   b = benchOf w pool
 
@@ -83,12 +81,12 @@ module _ {all : Listed} {many sender : ℕ} {room₀ room : List ℕ} {w : Works
       (bench-is : benchOf after left ≡ benchBy b t (decisionOf decision .taken))
       (tally-is : after .tally ≡ tallyBy t (decisionOf decision .taken)) where
     abbrev outcome : Outcome
-    outcome = record { told = told; bench = benchOf after left }
+    outcome = record { told = decisionOf decision .told; bench = benchOf after left }
 
     -- This is what becomes of the command by the store's own rows; it leaves a sound bench, and the tally true of it.
     took : outcome ≡ taken b r
     took =
-        rw (tells, bench-is)
+        rw bench-is
         (ap (λ (a : Answer). carriedBy b t a) decided ∙ taken-by b t (behind .good) (behind .tallied) r)
 
     good-after : GoodBench (outcome .bench)
@@ -104,42 +102,42 @@ module _ {all : Listed} {many sender : ℕ} {room₀ room : List ℕ} {w : Works
     later = runRests (outcome .bench) sender numbers rs
 
     abbrev own : List ℕ
-    own = recordBytes sender (told .code) (told .par) number
+    own = recordOf sender (decisionOf decision .told) number
 
     split : runRests b sender (number ∷ numbers) (r ∷ rs) ≡ record { bench = later .bench; records = own ++ later .records }
     unfolding runRests
     split = rw (← took)
 
-    size : n * 8 + 8 + 8 * length rs ≤ length room
+    size : n * recordLength + recordLength + recordLength * length rs ≤ length room
     size = omega (arith, behind .counted, behind .same)
 
-    kept : length (take (n * 8) room) ≡ n * 8
-    kept = length-take-le (n * 8) room (omega (arith, size))
+    kept : length (take (n * recordLength) room) ≡ n * recordLength
+    kept = length-take-le (n * recordLength) room (omega (arith, size))
 
-    front : length (take (n * 8) room ++ own) ≡ (n + 1) * 8
-    front = omega (arith, length-append (take (n * 8) room) own, kept)
+    front : length (take (n * recordLength) room ++ own) ≡ (n + 1) * recordLength
+    front = omega (arith, length-append (take (n * recordLength) room) own, kept)
 
     abbrev beyond : List ℕ
-    beyond = drop 8 (drop (n * 8) room)
+    beyond = drop recordLength (drop (n * recordLength) room)
 
-    placed : putMid (n * 8) (length room - n * 8) room part ≡ (take (n * 8) room ++ own) ++ beyond
+    placed : putMid (n * recordLength) (length room - n * recordLength) room part ≡ (take (n * recordLength) room ++ own) ++ beyond
     placed =
-        part-written (n * 8) own room part (omega (arith, size)) put
-        ∙ ap (λ l. take (n * 8) room ++ l) (with-room own (drop (n * 8) room) (omega (arith, size, length-drop (n * 8) room)))
-        ∙ sym (append-assoc (take (n * 8) room) own beyond)
+        part-written (n * recordLength) own room part (omega (arith, size)) put
+        ∙ ap (λ l. take (n * recordLength) room ++ l) (with-room own (drop (n * recordLength) room) (omega (arith, size, length-drop (n * recordLength) room)))
+        ∙ sym (append-assoc (take (n * recordLength) room) own beyond)
 
-    all-written : written (own ++ later .records) (drop (n * 8) room) ≡ own ++ written (later .records) beyond
+    all-written : written (own ++ later .records) (drop (n * recordLength) room) ≡ own ++ written (later .records) beyond
     all-written =
         let long = records-long (outcome .bench) sender numbers rs (omega (arith, behind .even)) in
-        written-both own (later .records) (drop (n * 8) room) (omega (arith, size, length-drop (n * 8) room))
+        written-both own (later .records) (drop (n * recordLength) room) (omega (arith, size, length-drop (n * recordLength) room))
 
-    whole : length (putMid (n * 8) (length room - n * 8) room part) ≡ length room
+    whole : length (putMid (n * recordLength) (length room - n * recordLength) room part) ≡ length room
     whole =
         ap length placed
-        ∙ length-append (take (n * 8) room ++ own) beyond
-        ∙ omega (arith, front, size, length-drop (n * 8) room, length-drop 8 (drop (n * 8) room))
+        ∙ length-append (take (n * recordLength) room ++ own) beyond
+        ∙ omega (arith, front, size, length-drop (n * recordLength) room, length-drop recordLength (drop (n * recordLength) room))
 
-    turn : Behind all many sender room₀ (putMid (n * 8) (length room - n * 8) room part) after left numbers rs (n + 1)
+    turn : Behind all many sender room₀ (putMid (n * recordLength) (length room - n * recordLength) room part) after left numbers rs (n + 1)
     turn =
         record {
           good = good-after;
@@ -149,24 +147,24 @@ module _ {all : Listed} {many sender : ℕ} {room₀ room : List ℕ} {w : Works
           counted = omega (arith, behind .counted);
           state = ap (λ (l : Listed). l .bench) (sym split) ∙ behind .state;
           records =
-              let whole-front = take (n * 8) room ++ own in
-              rw (placed, take-at whole-front beyond ((n + 1) * 8) front, drop-at whole-front beyond ((n + 1) * 8) front)
-              (append-assoc (take (n * 8) room) own (written (later .records) beyond)
-              ∙ ap (λ l. take (n * 8) room ++ l) (sym all-written)
-              ∙ ap (λ (l : Listed). take (n * 8) room ++ written (l .records) (drop (n * 8) room)) (sym split)
+              let whole-front = take (n * recordLength) room ++ own in
+              rw (placed, take-at whole-front beyond ((n + 1) * recordLength) front, drop-at whole-front beyond ((n + 1) * recordLength) front)
+              (append-assoc (take (n * recordLength) room) own (written (later .records) beyond)
+              ∙ ap (λ l. take (n * recordLength) room ++ l) (sym all-written)
+              ∙ ap (λ (l : Listed). take (n * recordLength) room ++ written (l .records) (drop (n * recordLength) room)) (sym split)
               ∙ behind .records);
         }
 
   -- The turn of a refused command, which leaves the bench and the tally,
   pub turn-refused : {verdict : Verdict} → decision ≡ Decision.Refused verdict
-      → Behind all many sender room₀ (putMid (n * 8) (length room - n * 8) room part) w pool numbers rs (n + 1)
+      → Behind all many sender room₀ (putMid (n * recordLength) (length room - n * recordLength) room part) w pool numbers rs (n + 1)
   turn-refused is =
       turn (ap (λ (d : Decision). benchBy b t (decisionOf d .taken)) (sym is)) (ap (λ (d : Decision). tallyBy t (decisionOf d .taken)) (sym is))
 
   -- and that of an accepted one, which takes effect.
   pub turn-accepted : {c : Command} {after : Works} {left : List ℕ} → decision ≡ Decision.Accepted c
       → after ≡ worksAfter w c → left ≡ poolAfter pool t c
-      → Behind all many sender room₀ (putMid (n * 8) (length room - n * 8) room part) after left numbers rs (n + 1)
+      → Behind all many sender room₀ (putMid (n * recordLength) (length room - n * recordLength) room part) after left numbers rs (n + 1)
   turn-accepted is after-is left-is =
       turn
       (rw (after-is, left-is) (ap (λ (d : Decision). benchBy b t (decisionOf d .taken)) (sym is)))
@@ -182,8 +180,8 @@ module _ {all : Listed} {many sender : ℕ} {room₀ room : List ℕ} {w : Works
   room-ended : room ≡ written (all .records) room₀
   unfolding runRests
   room-ended =
-      sym (take-append-drop (n * 8) room)
-      ∙ ap (λ l. take (n * 8) room ++ l) (sym (with-room [] (drop (n * 8) room) (omega arith)))
+      sym (take-append-drop (n * recordLength) room)
+      ∙ ap (λ l. take (n * recordLength) room ++ l) (sym (with-room [] (drop (n * recordLength) room) (omega arith)))
       ∙ behind .records
 
   at-work : AtWork w pool

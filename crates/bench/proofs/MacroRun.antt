@@ -11,8 +11,9 @@ use Rattle.words.proofs.Tests.{neither}
 use Rattle.wire.specs.declared.kinds.Kind.{Kind}
 use Rattle.wire.specs.declared.kinds.Command.{Command}
 use Rattle.wire.specs.declared.decoding.Reading.{Reading}
-use Rattle.wire.specs.Judge.{toldWith, judgeCode}
-use Rattle.wire.specs.Read.{answerOf, readOf, said}
+use Rattle.wire.specs.Judge.{plain, judgeCode}
+use Rattle.wire.specs.Read.{answerOf, readOf, saidParts, said}
+use Rattle.wire.specs.Kind.{partsOf}
 use Rattle.walk.specs.Walk.{rests}
 use Rattle.text.specs.Assemble.{bytesIn}
 use Rattle.store.specs.declared.roles.Role.{Role}
@@ -161,20 +162,20 @@ module _ (b : Bench) (good : GoodBench b) (free : Idle b) (m : ℕ) (closed : is
 
   -- What carrying it out answers: code 0, and the bench with the run begun.
   abbrev begun : Outcome
-  begun = record { told = toldWith 0 0; bench = effectOf b (runCommand m) }
+  begun = record { told = plain 0; bench = effectOf b (runCommand m) }
 
   pub run-accepted : carryOut b (runCommand m) ≡ begun
   unfolding carryOut
   run-accepted =
       let code : carryCode b (runCommand m) ≡ 0 = rw (carry-code b (runCommand m) (good .sound), run-judged) run-behind in
-      ap (λ n. outcomeFor n b (runCommand m)) code
+      ap (λ n. outcomeFor n (partsOf (Kind.Run m)) b (runCommand m)) code
 
   pub run-accepted-bytes : (s : List ℕ) → readOf s ≡ answerOf (Reading.Taken (runCommand m)) → carryOutBytes b s ≡ begun
   unfolding carryOutBytes
   run-accepted-bytes s read =
       let says = command-read s (runCommand m) read in
       let code : carryBytesCode b s ≡ 0 = rw (carry-bytes-code b s (good .sound), read-then b s, says .0, says .1) run-behind in
-      ap (λ n. outcomeFor n b (said s)) code ∙ ap (λ (c : Command). outcomeFor 0 b c) (says .1)
+      ap (λ n. outcomeFor n (saidParts s) b (said s)) code ∙ ap (λ (c : Command). outcomeFor 0 (saidParts s) b c) (says .1)
 
   pub begun-sound : GoodBench (effectOf b (runCommand m))
   begun-sound = effect-keeps b good (runCommand m) (record { judge = run-judged; permit = run-permitted })

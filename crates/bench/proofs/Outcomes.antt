@@ -10,9 +10,11 @@ use Rattle.wire.specs.declared.table.Found.{Found}
 use Rattle.wire.specs.declared.judging.Told.{Told}
 use Rattle.wire.specs.Codes.{firstOf}
 use Rattle.wire.specs.Table.{ruleOf}
-use Rattle.wire.specs.Judge.{toldWith, judgeCode, argChecks}
-use Rattle.wire.specs.Read.{readCode, readChecks, decodeChecks, opcodeOf, flagOf, lengthOf, thirdWord, said}
+use Rattle.wire.specs.Judge.{plain, toldFor, argChecks, judgeCode}
+use Rattle.wire.specs.Read.{readCode, readChecks, decodeChecks, opcodeOf, flagOf, lengthOf, thirdWord, saidParts, said}
+use Rattle.wire.specs.declared.kinds.Parts.{Parts}
 use Rattle.wire.proofs.FirstOf.{Coded, first-append}
+use Rattle.wire.proofs.Parameters.{other-told}
 use Rattle.words.specs.BigEndian.{wordAt}
 use Rattle.store.specs.Checks.{permitCode}
 use Rattle.bench.specs.declared.Bench.{Bench}
@@ -20,7 +22,7 @@ use Rattle.bench.specs.Status.{benchSound}
 use Rattle.bench.specs.Carry.{Outcome, row26, stateChecks, outcomeFor, commandChecks, carryCode, carryOut}
 use Rattle.bench.specs.Carry.{bytesChecks, taken, carryBytesCode, carryOutBytes}
 
--- What a refusal leaves: its code and parameter, and the bench as it was.
+-- What a refusal leaves: what it tells, and the bench as it was.
 abbrev pub left : Told → Bench → Outcome
 left told b = record { told = told; bench = b }
 
@@ -40,6 +42,11 @@ read-coded s =
 -- What the rows behind those, behind 10, say: 26, else what the store's say.
 unfoldable pub behindCode : Bench → Command → ℕ
 behindCode b c = firstOf (stateChecks b c)
+
+-- None of them asks for a number.
+pub behind-told : (parts : Parts) (b : Bench) (c : Command) → toldFor (behindCode b c) parts ≡ plain (behindCode b c)
+unfolding behindCode
+behind-told parts b c = other-told parts (stateChecks b c) refl
 
 pub behind-code : (b : Bench) (c : Command) → behindCode b c ≡ cond (row26 (b .camera .power) (c .flag) (c .kind)) 26 (permitCode (b .store) c)
 unfolding behindCode permitCode
@@ -64,15 +71,15 @@ unfolding carryBytesCode
 carry-bytes-code b s sound = rw sound
 
 -- A bench that is not sound gets 27 and stays.
-pub unsound : (b : Bench) (c : Command) → benchSound b ≡ false → left (toldWith 27 0) b ≡ carryOut b c
+pub unsound : (b : Bench) (c : Command) → benchSound b ≡ false → left (plain 27) b ≡ carryOut b c
 unfolding carryOut
 unsound b c e = rw e
 
-pub unsound-bytes : (b : Bench) (s : List ℕ) → benchSound b ≡ false → left (toldWith 27 0) b ≡ carryOutBytes b s
+pub unsound-bytes : (b : Bench) (s : List ℕ) → benchSound b ≡ false → left (plain 27) b ≡ carryOutBytes b s
 unfolding carryOutBytes
 unsound-bytes b s e = rw e
 
 -- From bytes on a sound bench.
 pub sound-bytes : (b : Bench) (s : List ℕ) → benchSound b ≡ true → taken b s ≡ carryOutBytes b s
 unfolding taken carryOutBytes
-sound-bytes b s sound = ap (λ n. outcomeFor n b (said s)) (sym (carry-bytes-code b s sound))
+sound-bytes b s sound = ap (λ n. outcomeFor n (saidParts s) b (said s)) (sym (carry-bytes-code b s sound))

@@ -3,21 +3,22 @@
 use Prim.Native.Nat.{ℕ}
 use mathlib.Core.Path.{_≡_, refl, sym, ap, _∙_}
 use mathlib.Core.List.{List, [], _∷_}
-use mathlib.Core.Bool.{Bool, true, false}
+use mathlib.Core.Bool.{Bool, true, false, cond}
 use lib.Dec.{eqb}
 use borrow.Author.Tests.{eqb-true}
 use Rattle.wire.specs.declared.kinds.Command.{Command}
 use Rattle.wire.specs.declared.decoding.Reading.{Reading}
 use Rattle.wire.specs.Codes.{firstOf}
-use Rattle.wire.specs.Read.{Answer, answerOf, answerFor, readCode, readOf, said}
+use Rattle.wire.specs.Read.{Answer, answerOf, answerFor, readCode, readOf, saidParts, said}
+use Rattle.wire.specs.Judge.{plain}
 use Rattle.walk.proofs.Shows.{first, own-read}
 use Rattle.bench.specs.declared.Bench.{Bench}
-use Rattle.bench.specs.Carry.{Outcome, outcomeFor, bytesChecks, taken}
-use Rattle.bench.proofs.Outcomes.{left, behindCode, read-then}
+use Rattle.bench.specs.Carry.{Outcome, effectOf, outcomeFor, bytesChecks, taken}
+use Rattle.bench.proofs.Outcomes.{left, behindCode, behind-told, read-then}
 
 -- What the rows behind 10 say of a command that was read.
 abbrev permitted : Bench → Command → Outcome
-permitted b c = outcomeFor (behindCode b c) b c
+permitted b c = record { told = plain (behindCode b c); bench = cond (eqb (behindCode b c) 0) (effectOf b c) b }
 
 -- The outcome, from what reading said.
 abbrev onReading : Bench → Answer → Outcome
@@ -28,7 +29,8 @@ read-passed : (b : Bench) (s : List ℕ) → readCode s ≡ 0 → permitted b (s
 unfolding taken
 read-passed b s none =
     let code : firstOf (bytesChecks b s) ≡ behindCode b (said s) = rw (read-then b s, none) in
-    ap (λ n. outcomeFor n b (said s)) (sym code)
+    ap (λ told. record { told = told; bench = cond (eqb (behindCode b (said s)) 0) (effectOf b (said s)) b }) (sym (behind-told (saidParts s) b (said s)))
+    ∙ ap (λ n. outcomeFor n (saidParts s) b (said s)) (sym code)
 
 by-reading : (b : Bench) (s : List ℕ) → taken b s ≡ onReading b (readOf s)
 unfolding taken readOf
@@ -37,7 +39,7 @@ by-reading b s = go (eqb (readCode s) 0) refl
     go : (none : Bool) → eqb (readCode s) 0 ≡ none → taken b s ≡ onReading b (readOf s)
     go true is =
         let zero = eqb-true (readCode s) 0 is in
-        let was : readOf s ≡ answerOf (Reading.Taken (said s)) = ap (λ n. answerFor n (said s)) zero in
+        let was : readOf s ≡ answerOf (Reading.Taken (said s)) = ap (λ n. answerFor n (saidParts s) (said s)) zero in
         sym (read-passed b s zero) ∙ ap (onReading b) (sym was)
     go false is =
         let code : firstOf (bytesChecks b s) ≡ readCode s = rw (read-then b s, is) in rw (code, is)

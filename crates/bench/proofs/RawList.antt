@@ -9,19 +9,18 @@ use lib.Seq.{drop-drop}
 use borrow.Rule.Slice.PartMut.{putMid}
 use Rattle.words.specs.BigEndian.{written}
 use Rattle.wire.specs.declared.kinds.Command.{Command}
-use Rattle.wire.specs.declared.judging.Told.{Told}
 use Rattle.wire.specs.Read.{spanOf}
 use Rattle.walk.specs.Walk.{rests}
 use Rattle.walk.proofs.Rests.{rests-none, rests-more}
 use Rattle.walk.proofs.Turns.{from-place, CommandAt, command-at}
-use Rattle.report.specs.Record.{recordBytes}
+use Rattle.report.specs.Record.{recordLength}
 use Rattle.store.specs.TallySteps.{storeOf, poolAfter, Tallied}
 use Rattle.bench.specs.declared.Bench.{Bench}
 use Rattle.bench.specs.declared.Works.{Works}
 use Rattle.bench.specs.declared.Verdict.{Verdict}
 use Rattle.bench.specs.declared.deciding.Decision.{Decision}
 use Rattle.bench.specs.Steps.{benchOf, worksAfter, AtWork, decisionOf, decidedIn}
-use Rattle.bench.specs.Run.{numbersFrom, ownNumbers, ownList}
+use Rattle.bench.specs.Run.{numbersFrom, ownNumbers, recordOf, ownList}
 use Rattle.bench.proofs.Sound.{GoodBench}
 use Rattle.bench.proofs.InTurn.{own-even}
 use Rattle.bench.proofs.Listing.{Behind}
@@ -60,11 +59,10 @@ more-rests list at more = rw (rests-more (drop at list) (omega (arith, length-dr
 module _ {b₀ : Bench} {sender : ℕ} {list room₀ room : List ℕ} {w : Works} {pool : List ℕ} {at n : ℕ}
     (there : AtPlace b₀ sender list room₀ room w pool at n) where
   -- A turn, whose command stands at the place and takes so many bytes.
-  module _ (fits : length (rests list) * 8 ≤ length room₀) (more : at < length list)
-      (decision : Decision) {told : Told} {part : List ℕ} {span : ℕ}
+  module _ (fits : length (rests list) * recordLength ≤ length room₀) (more : at < length list)
+      (decision : Decision) {part : List ℕ} {span : ℕ}
       (decided : decisionOf decision ≡ decidedIn (w .camera .power) (w .tally) (ahead list at))
-      (tells : told ≡ decisionOf decision .told)
-      (put : part ≡ written (recordBytes sender (told .code) (told .par) (n + 1)) (take (length room - n * 8) (drop (n * 8) room)))
+      (put : part ≡ written (recordOf sender (decisionOf decision .told) (n + 1)) (take (length room - n * recordLength) (drop (n * recordLength) room)))
       (spans : span ≡ spanOf (ahead list at)) where
     here : CommandAt list at span
     here = command-at list at span more spans
@@ -82,15 +80,15 @@ module _ {b₀ : Bench} {sender : ℕ} {list room₀ room : List ℕ} {w : Works
 
     -- It is refused,
     pub turn-refused : {verdict : Verdict} → decision ≡ Decision.Refused verdict
-        → AtPlace b₀ sender list room₀ (putMid (n * 8) (length room - n * 8) room part) w pool (at + span) (n + 1)
-    turn-refused is = record { within = here .ends; behind = listing.turn-refused next fits decision own tells put is }
+        → AtPlace b₀ sender list room₀ (putMid (n * recordLength) (length room - n * recordLength) room part) w pool (at + span) (n + 1)
+    turn-refused is = record { within = here .ends; behind = listing.turn-refused next fits decision own put is }
 
     -- or accepted.
     pub turn-accepted : {c : Command} {after : Works} {left : List ℕ} → decision ≡ Decision.Accepted c
         → after ≡ worksAfter w c → left ≡ poolAfter pool (w .tally) c
-        → AtPlace b₀ sender list room₀ (putMid (n * 8) (length room - n * 8) room part) after left (at + span) (n + 1)
+        → AtPlace b₀ sender list room₀ (putMid (n * recordLength) (length room - n * recordLength) room part) after left (at + span) (n + 1)
     turn-accepted is after-is left-is =
-        record { within = here .ends; behind = listing.turn-accepted next fits decision own tells put is after-is left-is }
+        record { within = here .ends; behind = listing.turn-accepted next fits decision own put is after-is left-is }
 
   -- The end: nothing is left of the list.
   pub list-ended : length list ≤ at → Ended b₀ sender list room₀ room w pool n

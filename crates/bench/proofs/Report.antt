@@ -14,24 +14,25 @@ use Rattle.words.proofs.Tests.{neither}
 use Rattle.words.specs.BigEndian.{wordAt, byteAt, written}
 use Rattle.words.proofs.Laws.{with-room}
 use Rattle.wire.specs.declared.judging.Told.{Told}
-use Rattle.wire.specs.Read.{said}
+use Rattle.wire.specs.Read.{saidParts, said}
 use Rattle.wire.proofs.Order.{due-none}
+use Rattle.wire.proofs.Parameters.{Parameter, Recorded, recorded}
 use Rattle.walk.specs.Walk.{rests}
 use Rattle.walk.specs.Shown.{listOf, shownOf}
-use Rattle.walk.proofs.Rests.{records-fit}
+use Rattle.walk.proofs.Rests.{records-1024}
 use Rattle.walk.proofs.Shows as shows
-use Rattle.report.specs.Record.{recordBytes}
+use Rattle.report.specs.Record.{recordLength, reportRoom}
 use Rattle.store.specs.declared.roles.Role.{Role}
 use Rattle.bench.specs.declared.Bench.{Bench}
 use Rattle.bench.specs.Status.{freshBench, benchSound}
 use Rattle.bench.specs.Carry.{Outcome, taken, carryOutBytes}
 use Rattle.bench.specs.Events.{Event, bytes, run, after, Reached, takes, takesAny, accepts, acceptsAny}
-use Rattle.bench.specs.Run.{ownNumbers, runRests, ownList, kitPart, pupilWith, pupilPart, reportWith, reportOf}
+use Rattle.bench.specs.Run.{ownNumbers, recordOf, runRests, ownList, kitPart, pupilWith, pupilPart, reportWith, reportOf}
 use Rattle.bench.specs.Run.{runChecks, runCode, runOf, roomAfter}
 use Rattle.bench.proofs.Outcomes.{sound-bytes}
 use Rattle.bench.proofs.InTurn.{leftBy, own-even, own-number, kit-then, both-left}
 use Rattle.bench.proofs.Sound.{GoodBench, taken-good, left-good}
-use Rattle.bench.proofs.Listing.{records-long, eight-within}
+use Rattle.bench.proofs.Listing.{records-long, record-within}
 use Rattle.bench.proofs.MacroRun.{after-append}
 use Rattle.bench.proofs.Own.{taken-own}
 
@@ -42,19 +43,16 @@ restAt s k = getD (rests s) k []
 abbrev pub benchAt : Bench → List ℕ → ℕ → Bench
 benchAt b s k = leftBy b (take k (rests s))
 
--- The verdict on it, a code and a parameter.
+-- The verdict on it: a code and, with 8, what was wrong with the number.
 abbrev pub verdictAt : Bench → List ℕ → ℕ → Told
 verdictAt b s k = taken (benchAt b s k) (restAt s k) .told
 
--- A record of a verdict, and the record at a place, from 0, of a report.
-abbrev pub recordOf : ℕ → Told → ℕ → List ℕ
-recordOf sender told number = recordBytes sender (told .code) (told .par) number
-
+-- The record at a place, from 0, of a report.
 abbrev pub recordAt : List ℕ → ℕ → List ℕ
-recordAt report k = take 8 (drop (8 * k) report)
+recordAt report k = take recordLength (drop (recordLength * k) report)
 
--- A list's records are 8 bytes to each command.
-pub list-long : (b : Bench) (sender : ℕ) (s : List ℕ) → length (ownList b sender s .records) ≡ 8 * length (rests s)
+-- A list's records are 12 bytes to each command.
+pub list-long : (b : Bench) (sender : ℕ) (s : List ℕ) → length (ownList b sender s .records) ≡ recordLength * length (rests s)
 list-long b sender s = records-long b sender (ownNumbers s) (rests s) (own-even s)
 
 -- The record at a place of a list's records, whatever its numbers: that sender, the verdict on the command there, and the number there.
@@ -67,12 +65,12 @@ numbered-record b sender (number ∷ numbers) [] even k there = absurd (omega ar
 numbered-record b sender (number ∷ numbers) (r ∷ rs) even zero there = refl
 numbered-record b sender (number ∷ numbers) (r ∷ rs) even (suc k) there =
     let l = runRests b sender (number ∷ numbers) (r ∷ rs) .records in
-    ap (λ n. take 8 (drop n l)) eight
-    ∙ ap (take 8) (sym (drop-drop (8 * k) 8 l))
+    ap (λ n. take recordLength (drop n l)) next
+    ∙ ap (take recordLength) (sym (drop-drop (recordLength * k) recordLength l))
     ∙ numbered-record (taken b r .bench) sender numbers rs (omega arith) k (omega arith)
   where
-    eight : 8 * suc k ≡ 8 + 8 * k
-    eight = omega arith
+    next : recordLength * suc k ≡ recordLength + recordLength * k
+    next = omega arith
 
 -- Record number k + 1 of a sender's list, the one at place k: that sender, the verdict on the list's command number k + 1, and the number k + 1.
 pub list-record : (b : Bench) (sender : ℕ) (s : List ℕ) (k : ℕ) → k < length (rests s)
@@ -88,15 +86,15 @@ module _ (b : Bench) (kit numbers pupil : List ℕ) (even : length numbers ≡ l
   abbrev second : List ℕ
   second = pupilWith b kit numbers pupil .records
 
-  second-long : length second ≡ 8 * length (rests pupil)
+  second-long : length second ≡ recordLength * length (rests pupil)
   second-long = records-long (kitPart b kit .bench) 2 numbers (rests pupil) even
 
-  -- They take 8 bytes to each command, at most 8,192 where no list is longer than 4,096.
-  pub both-long : length (reportWith b kit numbers pupil) ≡ 8 * (length (rests kit) + length (rests pupil))
+  -- They take 12 bytes to each command, at most 12,288 where no list is longer than 4,096.
+  pub both-long : length (reportWith b kit numbers pupil) ≡ recordLength * (length (rests kit) + length (rests pupil))
   both-long = length-append first second ∙ omega (arith, list-long b 1 kit, second-long)
 
-  pub both-fit : length kit ≤ 4096 → length pupil ≤ 4096 → length (reportWith b kit numbers pupil) ≤ 8192
-  both-fit kit-short pupil-short = omega (arith, both-long, records-fit kit pupil kit-short pupil-short)
+  pub both-fit : length kit ≤ 4096 → length pupil ≤ 4096 → length (reportWith b kit numbers pupil) ≤ reportRoom
+  both-fit kit-short pupil-short = omega (arith, both-long, records-1024 kit pupil kit-short pupil-short)
 
   module _ (room : List ℕ) (fits : length (reportWith b kit numbers pupil) ≤ length room) where
     abbrev left : List ℕ
@@ -112,7 +110,7 @@ module _ (b : Bench) (kit numbers pupil : List ℕ) (even : length numbers ≡ l
     pub kit-placed : (k : ℕ) → k < length (rests kit) → recordAt left k ≡ recordOf 1 (verdictAt b kit k) (k + 1)
     kit-placed k there =
         ap (λ l. recordAt l k) (filled ∙ append-assoc first second stays)
-        ∙ eight-within first (second ++ stays) (8 * k) (omega (arith, list-long b 1 kit))
+        ∙ record-within first (second ++ stays) (recordLength * k) (omega (arith, list-long b 1 kit))
         ∙ list-record b 1 kit k there
 
     -- the pupil's stands k places behind the kit's records, with the number that it was given,
@@ -120,46 +118,56 @@ module _ (b : Bench) (kit numbers pupil : List ℕ) (even : length numbers ≡ l
         → recordAt left (length (rests kit) + k) ≡ recordOf 2 (verdictAt (kitPart b kit .bench) pupil k) (getD numbers k 0)
     pupil-placed k there =
         ap (λ l. recordAt l (length (rests kit) + k)) (filled ∙ append-assoc first second stays)
-        ∙ ap (λ n. take 8 (drop n (first ++ (second ++ stays)))) place
-        ∙ ap (take 8) (drop-append-add first (second ++ stays) (8 * k))
-        ∙ eight-within second stays (8 * k) (omega (arith, second-long))
+        ∙ ap (λ n. take recordLength (drop n (first ++ (second ++ stays)))) place
+        ∙ ap (take recordLength) (drop-append-add first (second ++ stays) (recordLength * k))
+        ∙ record-within second stays (recordLength * k) (omega (arith, second-long))
         ∙ numbered-record (kitPart b kit .bench) 2 numbers (rests pupil) even k there
       where
-        place : 8 * (length (rests kit) + k) ≡ length first + 8 * k
+        place : recordLength * (length (rests kit) + k) ≡ length first + recordLength * k
         place = omega (arith, list-long b 1 kit)
 
     -- and what lies behind them stays.
-    pub rest-placed : let end = 8 * (length (rests kit) + length (rests pupil)) in drop end left ≡ drop end room
+    pub rest-placed : let end = recordLength * (length (rests kit) + length (rests pupil)) in drop end left ≡ drop end room
     rest-placed =
-        let end = 8 * (length (rests kit) + length (rests pupil)) in
+        let end = recordLength * (length (rests kit) + length (rests pupil)) in
         ap (drop end) filled
         ∙ drop-at (reportWith b kit numbers pupil) stays end both-long
         ∙ ap (λ n. drop n room) both-long
 
 -- So of the records of two raw lists.
-pub report-long : (b : Bench) (kit pupil : List ℕ) → length (reportOf b kit pupil) ≡ 8 * (length (rests kit) + length (rests pupil))
+pub report-long : (b : Bench) (kit pupil : List ℕ) → length (reportOf b kit pupil) ≡ recordLength * (length (rests kit) + length (rests pupil))
 report-long b kit pupil = both-long b kit (ownNumbers pupil) pupil (own-even pupil)
 
-pub report-fits : (b : Bench) (kit pupil : List ℕ) → length kit ≤ 4096 → length pupil ≤ 4096 → length (reportOf b kit pupil) ≤ 8192
+pub report-fits : (b : Bench) (kit pupil : List ℕ) → length kit ≤ 4096 → length pupil ≤ 4096 → length (reportOf b kit pupil) ≤ reportRoom
 report-fits b kit pupil kit-short pupil-short = both-fit b kit (ownNumbers pupil) pupil (own-even pupil) kit-short pupil-short
 
--- The 8 bytes of such a record: the sender, the code, the parameter, 0, and the number in 32 bits.
+-- The 12 bytes of such a record: the sender, the code, the parameter, 0, the number in 32 bits, and the value in 32 bits.
 pub record Carries (bytes : List ℕ) (from : ℕ) (verdict : Told) (n : ℕ) : Type 0 where
-  pub long : length bytes ≡ 8
+  pub long : length bytes ≡ recordLength
   pub sender : byteAt bytes 0 ≡ from
   pub code : byteAt bytes 1 ≡ verdict .code
-  pub par : byteAt bytes 2 ≡ verdict .par
+  pub par : byteAt bytes 2 ≡ verdict .stray .par
   pub spare : byteAt bytes 3 ≡ 0
   pub number : wordAt bytes 4 ≡ n
+  pub value : wordAt bytes 8 ≡ verdict .stray .value
 
 pub record-carries : (sender : ℕ) (verdict : Told) (number : ℕ) → Carries (recordOf sender verdict number) sender verdict number
-record-carries sender verdict number = record { long = refl; sender = refl; code = refl; par = refl; spare = refl; number = omega arith }
+record-carries sender verdict number =
+    record { long = refl; sender = refl; code = refl; par = refl; spare = refl; number = omega arith; value = omega arith }
+
+-- What such a record says of a number of its command.
+abbrev pub RecordedIn : List ℕ → List ℕ → Type 0
+RecordedIn report s = Recorded (saidParts s) (byteAt report 1) (byteAt report 2) (wordAt report 8)
+
+pub record-recorded : (report s : List ℕ) (from : ℕ) (verdict : Told) (n : ℕ) → Carries report from verdict n → Parameter (saidParts s) verdict
+    → RecordedIn report s
+record-recorded report s from verdict n carries says = rw (carries .code, carries .par, carries .value) (recorded (saidParts s) verdict says)
 
 -- What a run with code 0 has passed: 20, 21 and 27 are not due.
 pub record Passed (b : Bench) (kit pupil room : List ℕ) : Type 0 where
   pub kit-short : length kit ≤ 4096
   pub pupil-short : length pupil ≤ 4096
-  pub enough : 8192 ≤ length room
+  pub enough : reportRoom ≤ length room
   pub sound : benchSound b ≡ true
 
 pub passed : (b : Bench) (kit pupil room : List ℕ) → runOf b kit pupil room .code ≡ 0 → Passed b kit pupil room
@@ -170,7 +178,7 @@ passed b kit pupil room accepted =
     record {
       kit-short = ltb-false 4096 (length kit) (short .0);
       pupil-short = ltb-false 4096 (length pupil) (short .1);
-      enough = ltb-false (length room) 8192 (none .1 .0);
+      enough = ltb-false (length room) reportRoom (none .1 .0);
       sound = not-false (benchSound b) (none .1 .1 .0);
     }
 
@@ -213,9 +221,9 @@ module _ (b : Bench) (kit pupil room : List ℕ) (accepted : runOf b kit pupil r
       ∙ ap (recordOf 2 (verdictAt (kitPart b kit .bench) pupil k)) (own-number pupil k there)
 
   -- "Bytes after the last record stay."
-  pub rest-stays : let end = 8 * (length (rests kit) + length (rests pupil)) in drop end (roomAfter b kit pupil room) ≡ drop end room
+  pub rest-stays : let end = recordLength * (length (rests kit) + length (rests pupil)) in drop end (roomAfter b kit pupil room) ≡ drop end room
   rest-stays =
-      ap (drop (8 * (length (rests kit) + length (rests pupil)))) room-is
+      ap (drop (recordLength * (length (rests kit) + length (rests pupil)))) room-is
       ∙ rest-placed b kit (ownNumbers pupil) pupil (own-even pupil) room fits
 
 -- A run told command by command: the kit's and then the pupil's, each an event of its own from its bytes; none where the run is refused.

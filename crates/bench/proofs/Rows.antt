@@ -1,12 +1,12 @@
 -- The rows of 01's codes as each call tries them. Carrying out tries, on a sound bench, rows 8 to 19 or, from bytes, 1 to 19, with 26 behind 10
 -- and 25 behind 15, and no two of them have one code; on any other bench row 27 is the first. The other calls of a bench follow, and the writer of its records.
 use Prim.Native.Nat.{ℕ, suc, _≤_}
-use mathlib.Core.Path.{_≡_, refl, sym, ap, subst}
+use mathlib.Core.Path.{_≡_, refl, sym, ap, subst, _∙_}
 use mathlib.Core.Logic.{_↔_, _≢_}
 use mathlib.Core.List.{List, [], _∷_, _++_}
 use mathlib.Core.Bool.{Bool, true, false, cond, not, _&&_, _||_}
 use native.Mathlib.Omega.{arith}
-use lib.ListN.{length}
+use lib.ListN.{length, take}
 use lib.Dec.{eqb, leb, ltb}
 use borrow.Author.Tests.{leb-true, eqb-false, not-true}
 use Rattle.words.proofs.Tests.{both}
@@ -15,11 +15,13 @@ use Rattle.wire.specs.declared.table.Found.{Found}
 use Rattle.wire.specs.declared.kinds.Command.{Command}
 use Rattle.wire.specs.Codes.{Check, _when_, firstOf}
 use Rattle.wire.specs.Table.{ruleOf}
-use Rattle.wire.specs.Judge.{toldWith, argChecks}
-use Rattle.wire.specs.Read.{reachChecks, sumDiffers, decodeChecks, opcodeOf, flagOf, lengthOf, thirdWord, readChecks, said}
+use Rattle.wire.specs.Judge.{plain, argChecks}
+use Rattle.wire.specs.Read.{reachChecks, sumDiffers, decodeChecks, opcodeOf, flagOf, lengthOf, thirdWord, readChecks, readCode, saidParts, said}
+use Rattle.wire.specs.Kind.{partsOf}
+use Rattle.wire.specs.declared.kinds.Parts.{Parts}
 use Rattle.wire.proofs.Order.{NoneDue, Order, order, apart}
-use Rattle.wire.proofs.Parameters.{Parameter, RangeRow, parameter, range-args, range-read, range-none, range-append}
-use Rattle.report.specs.Record.{putCode}
+use Rattle.wire.proofs.Parameters.{SomeOut, Parameter, RangeRow, parameter, eight, range-args, none-eight, range-read, range-none, range-append, read-eight}
+use Rattle.report.specs.Record.{reportRoom, putCode}
 use Rattle.text.specs.declared.names.Named.{Named}
 use Rattle.text.specs.declared.findings.Finding.{Finding}
 use Rattle.text.specs.Split.{linesOf, wordsOf}
@@ -35,11 +37,11 @@ use Rattle.bench.specs.Second.{secondAt}
 use Rattle.bench.specs.Run.{runChecks, runCode, runOf}
 use Rattle.bench.specs.Typed.{typedFindings, typedFound, typedOf}
 use Rattle.text.proofs.FirstFinding.{FindsFirst, first-found}
-use Rattle.bench.proofs.Outcomes.{carry-bytes-code, unsound, unsound-bytes}
+use Rattle.bench.proofs.Outcomes.{behindCode, read-then, carry-bytes-code, unsound, unsound-bytes}
 
 -- What an accepted command is answered: code 0, and the bench after its effect.
 abbrev pub takenAs : Bench → Command → Outcome
-takenAs b c = record { told = toldWith 0 0; bench = effectOf b c }
+takenAs b c = record { told = plain 0; bench = effectOf b c }
 
 -- The code that is told.
 pub command-code : (b : Bench) (c : Command) → benchSound b ≡ true → carryOut b c .told .code ≡ firstOf (commandChecks b c)
@@ -95,13 +97,13 @@ pub command-taken : (b : Bench) → benchSound b ≡ true → (c : Command) → 
 unfolding carryOut
 command-taken b sound c =
     let rows = command-order b sound c .accepted in
-    (λ e. rows .0 (ap (λ (o : Outcome). o .told .code) e), λ none. ap (λ n. outcomeFor n b c) (rows .1 none))
+    (λ e. rows .0 (ap (λ (o : Outcome). o .told .code) e), λ none. ap (λ n. outcomeFor n (partsOf (c .kind)) b c) (rows .1 none))
 
 pub bytes-taken : (b : Bench) → benchSound b ≡ true → (s : List ℕ) → (carryOutBytes b s ≡ takenAs b (said s)) ↔ NoneDue (bytesChecks b s)
 unfolding carryOutBytes
 bytes-taken b sound s =
     let rows = bytes-order b sound s .accepted in
-    (λ e. rows .0 (ap (λ (o : Outcome). o .told .code) e), λ none. ap (λ n. outcomeFor n b (said s)) (rows .1 none))
+    (λ e. rows .0 (ap (λ (o : Outcome). o .told .code) e), λ none. ap (λ n. outcomeFor n (saidParts s) b (said s)) (rows .1 none))
 
 -- On a bench that is not sound row 27 is the first.
 pub command-unsound : (b : Bench) → benchSound b ≡ false → (c : Command) → carryOut b c .told .code ≡ 27
@@ -174,7 +176,7 @@ line-not-27 l = go (isBlank l) (words (formNamed (nameIn (wordsOf (bodyIn l)))))
     words Named.Unknown = first-not-27 (lineChecks Named.Unknown (flagIn l) (wordsOf (bodyIn l))) refl
 
     go : (t : Bool) → typedAs (flagIn l) (wordsOf (bodyIn l)) .told .code ≢ 27
-        → cond t (record { told = toldWith 0 0; taken = [] }) (typedAs (flagIn l) (wordsOf (bodyIn l))) .told .code ≢ 27
+        → cond t (record { told = plain 0; taken = [] }) (typedAs (flagIn l) (wordsOf (bodyIn l))) .told .code ≢ 27
     go true other e = absurd (omega arith)
     go false other e = other e
 
@@ -195,7 +197,7 @@ pub typed-not-27 : (b : Bench) → benchSound b ≡ true → (kit text room : Li
 unfolding typedOf typedFound firstFound
 typed-not-27 b sound kit text room e =
     let long = ltb 32768 (length text) || ltb 4096 (length kit) in
-    go long (ltb 4096 (length (bytesIn text))) (ltb (length room) 8192) (eqb (badLine text .told .code) 0) (rw sound at e)
+    go long (ltb 4096 (length (bytesIn text))) (ltb (length room) reportRoom) (eqb (badLine text .told .code) 0) (rw sound at e)
   where
     last : Bool → Bool → List Finding
     last list small = whole (20 when list) ∷ whole (21 when small) ∷ nothing ∷ []
@@ -214,21 +216,47 @@ typed-not-27 b sound kit text room e =
     go false list small true e = rest list small e
     go false list small false e = lines-not-27 1 (linesOf text) e
 
--- The parameter beside the code of carrying out: no row but 8 asks for an argument's range.
-state-ranges : (b : Bench) (c : Command) → RangeRow c (stateChecks b c)
-state-ranges b c = range-none c (stateChecks b c) refl
+-- What is told of a number beside the code of carrying out: no row but 8 asks for an argument's range.
+state-ranges : (parts : Parts) (b : Bench) (c : Command) → RangeRow parts (stateChecks b c)
+state-ranges parts b c = range-none parts (stateChecks b c) refl
 
-pub command-parameter : (b : Bench) (c : Command) → Parameter c (carryOut b c .told)
+pub command-parameter : (b : Bench) (c : Command) → Parameter (partsOf (c .kind)) (carryOut b c .told)
 unfolding carryOut
 command-parameter b c =
-    parameter c (carryChecks b c)
-    (λ e. absurd (omega arith), range-append c (argChecks c) (stateChecks b c) (range-args c) (state-ranges b c))
+    let parts = partsOf (c .kind) in
+    parameter parts (carryChecks b c)
+    (λ e. absurd (omega arith), range-append parts (argChecks c) (stateChecks b c) (range-args c) (state-ranges parts b c))
 
-pub bytes-parameter : (b : Bench) (s : List ℕ) → Parameter (said s) (carryOutBytes b s .told)
+pub bytes-parameter : (b : Bench) (s : List ℕ) → Parameter (saidParts s) (carryOutBytes b s .told)
 unfolding carryOutBytes
 bytes-parameter b s =
-    parameter (said s) (carryBytesChecks b s)
-    (λ e. absurd (omega arith), range-append (said s) (readChecks s) (stateChecks b (said s)) (range-read s) (state-ranges b (said s)))
+    let parts = saidParts s in
+    parameter parts (carryBytesChecks b s)
+    (λ e. absurd (omega arith), range-append parts (readChecks s) (stateChecks b (said s)) (range-read s) (state-ranges parts b (said s)))
+
+-- On a sound bench code 8 comes exactly where an argument is out of range: no row is tried before 8 on a decoded command, and rows 1 to 7 on bytes.
+pub command-eight : (b : Bench) → benchSound b ≡ true → (c : Command) → (carryOut b c .told .code ≡ 8) ↔ SomeOut (partsOf (c .kind))
+command-eight b sound c =
+    let parts = partsOf (c .kind) in
+    let rows = range-append parts (argChecks c) (stateChecks b c) (range-args c) (state-ranges parts b c) in
+    let at = eight parts (commandChecks b c) 0 rows refl (omega arith) refl in
+    let code = command-code b c sound in
+    (λ e. at .0 (sym code ∙ e) .1, λ out. code ∙ at .1 (tt, out))
+
+pub bytes-eight : (b : Bench) → benchSound b ≡ true → (s : List ℕ)
+    → (carryOutBytes b s .told .code ≡ 8) ↔ (NoneDue (take 7 (readChecks s)) × SomeOut (saidParts s))
+unfolding behindCode
+bytes-eight b sound s = (λ e. read-eight s .0 (only (eqb (readCode s) 0) refl (sym code ∙ e)), λ d. code ∙ first (read-eight s .1 d))
+  where
+    code : carryOutBytes b s .told .code ≡ cond (eqb (readCode s) 0) (behindCode b (said s)) (readCode s)
+    code = bytes-code b s sound ∙ read-then b s
+
+    only : (passed : Bool) → eqb (readCode s) 0 ≡ passed → cond passed (behindCode b (said s)) (readCode s) ≡ 8 → readCode s ≡ 8
+    only true is e = absurd (none-eight (stateChecks b (said s)) refl e)
+    only false is e = e
+
+    first : readCode s ≡ 8 → cond (eqb (readCode s) 0) (behindCode b (said s)) (readCode s) ≡ 8
+    first e = rw e
 
 -- A record's writer has row 24 alone.
 pub put-order : (bytes room : List ℕ) → Order (24 when not (hasRoom bytes room) ∷ []) (putCode bytes room)

@@ -13,7 +13,9 @@ use Rattle.words.proofs.Tests.{both}
 use Rattle.wire.specs.declared.kinds.Command.{Command}
 use Rattle.wire.specs.Codes.{firstOf}
 use Rattle.wire.specs.Judge.{judgeCode}
-use Rattle.wire.specs.Read.{readCode, said}
+use Rattle.wire.specs.Read.{readCode, saidParts, said}
+use Rattle.wire.specs.Kind.{partsOf}
+use Rattle.wire.specs.declared.kinds.Parts.{Parts}
 use Rattle.wire.proofs.RoundTrip.{read-allowed}
 use Rattle.frame.specs.Rules.{frameRule}
 use Rattle.frame.specs.Bytes.{frameBytes}
@@ -182,11 +184,11 @@ pub record Takes (b : Bench) (code : ℕ) (c : Command) : Type 0 where
   pub zero : code ≡ 0
   pub passed : Accepted b c
 
-by-code : (P : Bench → Type 0) (b : Bench) (c : Command) (code : ℕ) → (code ≡ 0 → Accepted b c)
-    → P b → (Takes b code c → P (effectOf b c)) → P (outcomeFor code b c .bench)
-by-code P b c code passes stays takes = go (eqb code 0) refl
+by-code : (P : Bench → Type 0) (parts : Parts) (b : Bench) (c : Command) (code : ℕ) → (code ≡ 0 → Accepted b c)
+    → P b → (Takes b code c → P (effectOf b c)) → P (outcomeFor code parts b c .bench)
+by-code P parts b c code passes stays takes = go (eqb code 0) refl
   where
-    go : (t : Bool) → eqb code 0 ≡ t → P (outcomeFor code b c .bench)
+    go : (t : Bool) → eqb code 0 ≡ t → P (outcomeFor code parts b c .bench)
     go true e =
         let zero = eqb-true code 0 e in
         rw e (takes (record { zero = zero; passed = passes zero }))
@@ -195,18 +197,18 @@ by-code P b c code passes stays takes = go (eqb code 0) refl
 pub by-command : (P : Bench → Type 0) (b : Bench) → GoodBench b → (c : Command)
     → P b → (Takes b (carryCode b c) c → P (effectOf b c)) → P (carryOut b c .bench)
 unfolding carryOut
-by-command P b good c = by-code P b c (carryCode b c) (λ zero. judge-accepted b c (judge-then b c ∙ sym (carry-code b c (good .sound)) ∙ zero))
+by-command P b good c = by-code P (partsOf (c .kind)) b c (carryCode b c) (λ zero. judge-accepted b c (judge-then b c ∙ sym (carry-code b c (good .sound)) ∙ zero))
 
 pub by-bytes : (P : Bench → Type 0) (b : Bench) → GoodBench b → (s : List ℕ)
     → P b → (Takes b (carryBytesCode b s) (said s) → P (effectOf b (said s))) → P (carryOutBytes b s .bench)
 unfolding carryOutBytes
-by-bytes P b good s = by-code P b (said s) (carryBytesCode b s) (λ zero. read-accepted b s (sym (carry-bytes-code b s (good .sound)) ∙ zero))
+by-bytes P b good s = by-code P (saidParts s) b (said s) (carryBytesCode b s) (λ zero. read-accepted b s (sym (carry-bytes-code b s (good .sound)) ∙ zero))
 
 -- The same of a command as a run takes it.
 pub by-taken : (P : Bench → Type 0) (b : Bench) (s : List ℕ)
     → P b → (Takes b (taken b s .told .code) (said s) → P (effectOf b (said s))) → P (taken b s .bench)
 unfolding taken
-by-taken P b s = by-code P b (said s) (firstOf (bytesChecks b s)) (read-accepted b s)
+by-taken P b s = by-code P (saidParts s) b (said s) (firstOf (bytesChecks b s)) (read-accepted b s)
 
 -- So every command that a run takes keeps a bench sound, and several in turn do.
 pub taken-good : (b : Bench) → GoodBench b → (s : List ℕ) → GoodBench (taken b s .bench)

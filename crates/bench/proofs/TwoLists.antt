@@ -9,6 +9,7 @@ use lib.ListN.{length, take, drop, length-append, length-drop}
 use lib.Seq.{take-at, drop-at}
 use lib.Dec.{eqb}
 use borrow.Rule.Slice.PartMut.{putMid}
+use Rattle.report.specs.Record.{recordLength}
 use Rattle.words.specs.BigEndian.{written}
 use Rattle.words.proofs.Laws.{with-room, part-written}
 use Rattle.walk.specs.Walk.{rests}
@@ -24,42 +25,42 @@ use Rattle.bench.proofs.Listing.{records-long, written-both}
 
 -- The records of both lists have room, whatever the pupil's numbers are, and the kit's list was carried out with m records.
 module _ (b : Bench) (kit numbers pupil room : List ℕ) (even : length numbers ≡ length (rests pupil))
-    (fits : (length (rests kit) + length (rests pupil)) * 8 ≤ length room) {m : ℕ} {b₁ : Bench} {room₁ : List ℕ}
+    (fits : (length (rests kit) + length (rests pupil)) * recordLength ≤ length room) {m : ℕ} {b₁ : Bench} {room₁ : List ℕ}
     (m-is : m ≡ length (rests kit)) (b₁-is : b₁ ≡ kitPart b kit .bench) (room₁-is : room₁ ≡ written (kitPart b kit .records) room) where
   abbrev first : List ℕ
   first = kitPart b kit .records
 
-  first-long : length first ≡ m * 8
+  first-long : length first ≡ m * recordLength
   first-long = omega (arith, records-long b 1 (ownNumbers kit) (rests kit) (own-even kit))
 
   first-put : room₁ ≡ first ++ drop (length first) room
   first-put = room₁-is ∙ with-room first room (omega (arith, first-long))
 
   -- So the pupil's have room behind the kit's.
-  pub rest-fits : (m + length (rests pupil)) * 8 ≤ length room₁
+  pub rest-fits : (m + length (rests pupil)) * recordLength ≤ length room₁
   rest-fits =
       let long = ap length first-put ∙ length-append first (drop (length first) room) in
       omega (arith, first-long, length-drop (length first) room)
 
-  pub part-fits : length (rests pupil) * 8 ≤ length (take (length room₁ - m * 8) (drop (m * 8) room₁))
-  part-fits = rw (from-place room₁ (m * 8)) (omega (arith, rest-fits, length-drop (m * 8) room₁))
+  pub part-fits : length (rests pupil) * recordLength ≤ length (take (length room₁ - m * recordLength) (drop (m * recordLength) room₁))
+  part-fits = rw (from-place room₁ (m * recordLength)) (omega (arith, rest-fits, length-drop (m * recordLength) room₁))
 
   -- The pupil's list was carried out then, in that part of the room.
   module _ {b₂ : Bench} {part : List ℕ} (b₂-is : b₂ ≡ runList b₁ 2 numbers pupil .bench)
-      (part-is : part ≡ written (runList b₁ 2 numbers pupil .records) (take (length room₁ - m * 8) (drop (m * 8) room₁))) where
+      (part-is : part ≡ written (runList b₁ 2 numbers pupil .records) (take (length room₁ - m * recordLength) (drop (m * recordLength) room₁))) where
     abbrev second : List ℕ
     second = pupilWith b kit numbers pupil .records
 
     pub bench-left : b₂ ≡ pupilWith b kit numbers pupil .bench
     bench-left = b₂-is ∙ ap (λ (b : Bench). runList b 2 numbers pupil .bench) b₁-is
 
-    pupil-put : part ≡ written second (take (length room₁ - m * 8) (drop (m * 8) room₁))
-    pupil-put = part-is ∙ ap (λ (b : Bench). written (runList b 2 numbers pupil .records) (take (length room₁ - m * 8) (drop (m * 8) room₁))) b₁-is
+    pupil-put : part ≡ written second (take (length room₁ - m * recordLength) (drop (m * recordLength) room₁))
+    pupil-put = part-is ∙ ap (λ (b : Bench). written (runList b 2 numbers pupil .records) (take (length room₁ - m * recordLength) (drop (m * recordLength) room₁))) b₁-is
 
-    pub both-put : putMid (m * 8) (length room₁ - m * 8) room₁ part ≡ written (reportWith b kit numbers pupil) room
+    pub both-put : putMid (m * recordLength) (length room₁ - m * recordLength) room₁ part ≡ written (reportWith b kit numbers pupil) room
     both-put =
-        part-written (m * 8) second room₁ part (omega (arith, rest-fits)) pupil-put
-        ∙ rw (first-put, take-at first (drop (length first) room) (m * 8) first-long, drop-at first (drop (length first) room) (m * 8) first-long)
+        part-written (m * recordLength) second room₁ part (omega (arith, rest-fits)) pupil-put
+        ∙ rw (first-put, take-at first (drop (length first) room) (m * recordLength) first-long, drop-at first (drop (length first) room) (m * recordLength) first-long)
         (sym (written-both first second room (omega (arith, first-long, records-long (kitPart b kit .bench) 2 numbers (rests pupil) even))))
 
 module _ (b : Bench) (kit pupil room : List ℕ) where

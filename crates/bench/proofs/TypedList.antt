@@ -11,12 +11,11 @@ use borrow.Author.Tests.{ltb-false}
 use borrow.Rule.Slice.PartMut.{putMid}
 use Rattle.words.specs.BigEndian.{written}
 use Rattle.wire.specs.declared.kinds.Command.{Command}
-use Rattle.wire.specs.declared.judging.Told.{Told}
 use Rattle.wire.specs.Read.{Answer}
 use Rattle.wire.specs.Write.{listBytes}
 use Rattle.walk.specs.Walk.{rests}
 use Rattle.walk.proofs.Rests.{rests-none}
-use Rattle.report.specs.Record.{recordBytes}
+use Rattle.report.specs.Record.{recordLength}
 use Rattle.text.specs.declared.findings.Fault.{Fault}
 use Rattle.text.specs.declared.line.Line.{Line}
 use Rattle.text.specs.Split.{linesOf}
@@ -34,6 +33,7 @@ use Rattle.bench.specs.declared.Works.{Works}
 use Rattle.bench.specs.declared.Verdict.{Verdict}
 use Rattle.bench.specs.declared.deciding.Decision.{Decision}
 use Rattle.bench.specs.Steps.{benchOf, worksAfter, AtWork, decisionOf, permittedBy, decidedIn}
+use Rattle.bench.specs.Run.{recordOf}
 use Rattle.bench.specs.Typed.{typedList}
 use Rattle.bench.proofs.InTurn.{typed-even}
 use Rattle.bench.proofs.Sound.{GoodBench}
@@ -160,22 +160,21 @@ module _ {b₀ : Bench} {text room₀ room : List ℕ} {w : Works} {pool : List 
       pub one-more : n + 1 ≤ length (rests (bytesIn text))
       one-more = omega (arith, first .counted)
 
-      module _ (fits : length (rests (bytesIn text)) * 8 ≤ length room₀) (decision : Decision) {told : Told} {part : List ℕ}
+      module _ (fits : length (rests (bytesIn text)) * recordLength ≤ length room₀) (decision : Decision) {part : List ℕ}
           (decided : decisionOf decision ≡ permittedBy (w .camera .power) (w .tally) c)
-          (tells : told ≡ decisionOf decision .told)
-          (put : part ≡ written (recordBytes 2 (told .code) (told .par) (number + 1)) (take (length room - n * 8) (drop (n * 8) room))) where
+          (put : part ≡ written (recordOf 2 (decisionOf decision .told) (number + 1)) (take (length room - n * recordLength) (drop (n * recordLength) room))) where
         -- Rows 1 to 10 passed, so that the rows behind them decide.
         whole : decisionOf decision ≡ decidedIn (w .camera .power) (w .tally) own
         whole = decided ∙ read-passed (w .camera .power) (w .tally) own c (sym (reads-listed c (commandsIn later) (allowed .0 .0) (allowed .0 .1)))
 
         pub turn-refused : {verdict : Verdict} → decision ≡ Decision.Refused verdict
-            → AtLine b₀ text room₀ (putMid (n * 8) (length room - n * 8) room part) w pool (at + (length line + 1)) (number + 1) (n + 1)
-        turn-refused no-command = goes (listing.turn-refused first fits decision whole tells put no-command)
+            → AtLine b₀ text room₀ (putMid (n * recordLength) (length room - n * recordLength) room part) w pool (at + (length line + 1)) (number + 1) (n + 1)
+        turn-refused no-command = goes (listing.turn-refused first fits decision whole put no-command)
 
         pub turn-accepted : {d : Command} {after : Works} {left : List ℕ} → decision ≡ Decision.Accepted d
             → after ≡ worksAfter w d → left ≡ poolAfter pool (w .tally) d
-            → AtLine b₀ text room₀ (putMid (n * 8) (length room - n * 8) room part) after left (at + (length line + 1)) (number + 1) (n + 1)
-        turn-accepted command after-is left-is = goes (listing.turn-accepted first fits decision whole tells put command after-is left-is)
+            → AtLine b₀ text room₀ (putMid (n * recordLength) (length room - n * recordLength) room part) after left (at + (length line + 1)) (number + 1) (n + 1)
+        turn-accepted command after-is left-is = goes (listing.turn-accepted first fits decision whole put command after-is left-is)
 
   -- The end: nothing is left of the text.
   pub text-ended : length text ≤ at

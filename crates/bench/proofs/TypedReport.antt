@@ -4,32 +4,37 @@ use Prim.Native.Nat.{ℕ, zero, suc, _+_, _*_, _-_, _≤_, _<_}
 use mathlib.Core.Path.{_≡_, refl, sym, ap, _∙_}
 use mathlib.Core.Logic.{_⊎_, inl, inr, _≢_}
 use mathlib.Core.List.{List, [], _∷_, _++_}
-use mathlib.Core.Bool.{Bool, true, false, cond, _||_, _&&_, false≢true}
+use mathlib.Core.Bool.{Bool, true, false, cond, not, _||_, _&&_}
 use native.Mathlib.Omega.{arith}
 use lib.ListN.{length, getD, take, drop}
 use lib.Dec.{eqb, leb, ltb}
 use borrow.Author.Tests.{ltb-false, le-ltb, ne-eqb, not-false}
 use Rattle.words.proofs.Tests.{neither, both}
-use Rattle.words.specs.BigEndian.{wordAt, written}
+use Rattle.words.specs.BigEndian.{byteAt, wordAt, written}
+use Rattle.wire.specs.declared.judging.Stray.{Stray}
 use Rattle.wire.specs.declared.judging.Told.{Told}
 use Rattle.wire.specs.Codes.{Check, firstOf}
-use Rattle.wire.specs.Read.{said, readCode}
+use Rattle.wire.specs.Judge.{noStray, toldFor}
+use Rattle.wire.specs.Read.{saidParts, said, readCode}
+use Rattle.wire.proofs.Parameters.{Parameter}
+use Rattle.report.specs.Record.{recordLength, reportRoom}
 use Rattle.walk.specs.Walk.{rests}
 use Rattle.text.specs.Assemble.{lineNumbers, bytesIn, badLine}
 use Rattle.text.proofs.Found.{found-silent, whole-silent}
+use Rattle.text.proofs.Parameters.{partsOfLine, whole-told, first-told, bad-line-parameter}
 use Rattle.text.proofs.Assembled.{AllRead, assembled-passes}
 use Rattle.store.specs.declared.roles.Role.{Role}
 use Rattle.bench.specs.declared.Bench.{Bench}
 use Rattle.bench.specs.Status.{freshBench, benchSound}
 use Rattle.bench.specs.Carry.{stateChecks, bytesChecks, taken}
 use Rattle.bench.specs.Events.{Event, typed, after, Reached, accepts, acceptsAny}
-use Rattle.bench.specs.Run.{kitPart, runOf, roomAfter}
+use Rattle.bench.specs.Run.{recordOf, kitPart, runOf, roomAfter}
 use Rattle.bench.specs.Typed.{typedFindings, typedFound, typedPart, typedReport, typedOf, typedRoom}
-use Rattle.bench.proofs.Outcomes.{behindCode, read-then}
+use Rattle.bench.proofs.Outcomes.{behindCode, behind-told, read-then}
 use Rattle.bench.proofs.InTurn.{typed-even, both-left, run-left}
 use Rattle.bench.proofs.Sound.{GoodBench}
 use Rattle.bench.proofs.MacroRun.{after-append}
-use Rattle.bench.proofs.Report.{restAt, verdictAt, recordOf, recordAt, both-fit, kit-placed, pupil-placed, rest-placed, commandsOf}
+use Rattle.bench.proofs.Report.{restAt, benchAt, verdictAt, recordAt, record-carries, both-fit, kit-placed, pupil-placed, rest-placed, commandsOf}
 use Rattle.bench.proofs.Report.{lists-leave, lists-accept}
 use Rattle.bench.proofs.Report as raw
 
@@ -39,7 +44,7 @@ pub record Passed (b : Bench) (kit text room : List ℕ) : Type 0 where
   pub kit-short : length kit ≤ 4096
   pub good : badLine text .told .code ≡ 0
   pub list-short : length (bytesIn text) ≤ 4096
-  pub enough : 8192 ≤ length room
+  pub enough : reportRoom ≤ length room
   pub sound : benchSound b ≡ true
 
 pub passed : (b : Bench) (kit text room : List ℕ) → typedOf b kit text room .found .told .code ≡ 0 → Passed b kit text room
@@ -53,9 +58,22 @@ passed b kit text room accepted =
       kit-short = ltb-false 4096 (length kit) (short .1);
       good = silent .1 .0;
       list-short = ltb-false 4096 (length (bytesIn text)) (whole-silent 20 (ltb 4096 (length (bytesIn text))) (λ e. omega arith) (silent .1 .1 .0));
-      enough = ltb-false (length room) 8192 (whole-silent 21 (ltb (length room) 8192) (λ e. omega arith) (silent .1 .1 .1 .0));
+      enough = ltb-false (length room) reportRoom (whole-silent 21 (ltb (length room) reportRoom) (λ e. omega arith) (silent .1 .1 .1 .0));
       sound = not-false (benchSound b) (whole-silent 27 _ (λ e. omega arith) (silent .1 .1 .1 .1 .0));
     }
+
+-- What a typed run tells of a number is told of the line that it names, on the numbers as they were typed there.
+pub typed-parameter : (b : Bench) (kit text room : List ℕ)
+    → let found = typedOf b kit text room .found in
+    Parameter (partsOfLine text (found .number)) (found .told)
+unfolding typedOf typedFound
+typed-parameter b kit text room =
+    let at = partsOfLine text in
+    let long = whole-told at 20 (ltb 32768 (length text) || ltb 4096 (length kit)) refl in
+    let list-long = whole-told at 20 (ltb 4096 (length (bytesIn text))) refl in
+    let no-room = whole-told at 21 (ltb (length room) reportRoom) refl in
+    let unsound = whole-told at 27 (not (benchSound b)) refl in
+    first-told at (typedFindings b kit text room) (long, (bad-line-parameter text, (list-long, (no-room, (unsound, tt)))))
 
 -- Nothing is found of the run of the list that the text says, either.
 raw-passes : (b : Bench) (kit text room : List ℕ) → Passed b kit text room → runOf b kit (bytesIn text) room .code ≡ 0
@@ -64,7 +82,7 @@ raw-passes b kit text room p =
     rw (
       le-ltb 4096 (length kit) (p .kit-short),
       le-ltb 4096 (length (bytesIn text)) (p .list-short),
-      le-ltb (length room) 8192 (p .enough),
+      le-ltb (length room) reportRoom (p .enough),
       p .sound,
     )
 
@@ -105,9 +123,9 @@ module _ (b : Bench) (kit text room : List ℕ) (accepted : typedOf b kit text r
       ∙ pupil-placed b kit (lineNumbers text) (bytesIn text) (typed-even text) room fits k there
 
   -- "Bytes after the last record stay."
-  pub rest-stays : let end = 8 * (length (rests kit) + length (rests (bytesIn text))) in drop end (typedRoom b kit text room) ≡ drop end room
+  pub rest-stays : let end = recordLength * (length (rests kit) + length (rests (bytesIn text))) in drop end (typedRoom b kit text room) ≡ drop end room
   rest-stays =
-      ap (drop (8 * (length (rests kit) + length (rests (bytesIn text))))) room-is
+      ap (drop (recordLength * (length (rests kit) + length (rests (bytesIn text))))) room-is
       ∙ rest-placed b kit (lineNumbers text) (bytesIn text) (typed-even text) room fits
 
 -- The run of the list that a text says, beside the run of the text.
@@ -119,13 +137,14 @@ pub record SameRun (b : Bench) (kit text room : List ℕ) : Type 0 where
   -- The kit's records are the same, byte for byte,
   pub kit-records : (k : ℕ) → k < length (rests kit)
       → recordAt (typedRoom b kit text room) k ≡ recordAt (roomAfter b kit (bytesIn text) room) k
-  -- and so are sender, code, parameter and spare byte of the pupil's;
+  -- and so are sender, code, parameter, spare byte and value of the pupil's;
   pub pupil-verdicts : (k : ℕ) → k < length (rests (bytesIn text)) → let at = length (rests kit) + k in
-      take 4 (recordAt (typedRoom b kit text room) at) ≡ take 4 (recordAt (roomAfter b kit (bytesIn text) room) at)
+      (take 4 (recordAt (typedRoom b kit text room) at) ≡ take 4 (recordAt (roomAfter b kit (bytesIn text) room) at))
+      × (drop 8 (recordAt (typedRoom b kit text room) at) ≡ drop 8 (recordAt (roomAfter b kit (bytesIn text) room) at))
   -- the number is that of the line.
   pub pupil-numbers : (k : ℕ) → k < length (rests (bytesIn text))
       → wordAt (recordAt (typedRoom b kit text room) (length (rests kit) + k)) 4 ≡ getD (lineNumbers text) k 0
-  pub rest : let end = 8 * (length (rests kit) + length (rests (bytesIn text))) in
+  pub rest : let end = recordLength * (length (rests kit) + length (rests (bytesIn text))) in
       drop end (typedRoom b kit text room) ≡ drop end (roomAfter b kit (bytesIn text) room)
 
 number-back : (sender : ℕ) (told : Told) (number : ℕ) → wordAt (recordOf sender told number) 4 ≡ number
@@ -141,8 +160,10 @@ same-run b kit text room accepted =
       kit-count = kit-count b kit text room accepted ∙ sym (raw.kit-count b kit pupil room code);
       pupil-count = pupil-count b kit text room accepted ∙ sym (raw.pupil-count b kit pupil room code);
       kit-records = λ k there. kit-record b kit text room accepted k there ∙ sym (raw.kit-record b kit pupil room code k there);
-      pupil-verdicts = λ k there.
-          ap (take 4) (pupil-record b kit text room accepted k there) ∙ sym (ap (take 4) (raw.pupil-record b kit pupil room code k there));
+      pupil-verdicts = λ k there. (
+        ap (take 4) (pupil-record b kit text room accepted k there) ∙ sym (ap (take 4) (raw.pupil-record b kit pupil room code k there)),
+        ap (drop 8) (pupil-record b kit text room accepted k there) ∙ sym (ap (drop 8) (raw.pupil-record b kit pupil room code k there)),
+      );
       pupil-numbers = λ k there.
           ap (λ l. wordAt l 4) (pupil-record b kit text room accepted k there)
           ∙ number-back 2 (verdictAt (kitPart b kit .bench) pupil k) (getD (lineNumbers text) k 0);
@@ -154,47 +175,54 @@ same-run b kit text room accepted =
     bench-is b kit text room code =
         both-left b kit (lineNumbers text) (bytesIn text) (typed-even text) ∙ sym (run-left b kit (bytesIn text) room code)
 
--- Rows 1 to 10 passed when the text was judged: a typed command gets 0 or a code that asks for the state, and no parameter.
+-- Rows 1 to 10 passed when the text was judged: a typed command gets 0 or a code that asks for the state, and nothing is told of a number.
 abbrev pub stateCode : ℕ → Bool
 stateCode n = (leb 11 n && leb n 19) || eqb n 25 || eqb n 26
 
-pub record OfState (told : Told) : Type 0 where
-  pub code : (told .code ≡ 0) ⊎ (stateCode (told .code) ≡ true)
-  pub par : told .par ≡ 0
+abbrev pub OfState : ℕ → Type 0
+OfState code = (code ≡ 0) ⊎ (stateCode code ≡ true)
 
 abbrev within : List Check → Bool
 within [] = true
 within (c ∷ cs) = stateCode (c .code) && within cs
 
-first-within : (cs : List Check) → within cs ≡ true → (firstOf cs ≡ 0) ⊎ (stateCode (firstOf cs) ≡ true)
+first-within : (cs : List Check) → within cs ≡ true → OfState (firstOf cs)
 first-within [] all = inl refl
 first-within (c ∷ cs) all =
     let parts = both (stateCode (c .code)) (within cs) all in
     go (c .due) (parts .0) (first-within cs (parts .1))
   where
-    go : (t : Bool) → stateCode (c .code) ≡ true → (firstOf cs ≡ 0) ⊎ (stateCode (firstOf cs) ≡ true)
-        → (cond t (c .code) (firstOf cs) ≡ 0) ⊎ (stateCode (cond t (c .code) (firstOf cs)) ≡ true)
+    go : (t : Bool) → stateCode (c .code) ≡ true → OfState (firstOf cs) → OfState (cond t (c .code) (firstOf cs))
     go true own rest = inr own
     go false own rest = rest
 
-read-told : (b : Bench) (s : List ℕ) → readCode s ≡ 0 → OfState (taken b s .told)
+read-told : (b : Bench) (s : List ℕ) → readCode s ≡ 0 → OfState (taken b s .told .code) × (taken b s .told .stray ≡ noStray)
 unfolding taken behindCode
 read-told b s read =
-    let code : firstOf (bytesChecks b s) ≡ behindCode b (said s) = rw (read-then b s, read) in
-    let rows = first-within (stateChecks b (said s)) refl in
-    record { code = rw code rows; par = rw (code, ne-eqb (behindCode b (said s)) 8 (not-8 (behindCode b (said s)) rows)) }
-  where
-    not-8 : (n : ℕ) → (n ≡ 0) ⊎ (stateCode n ≡ true) → n ≢ 8
-    not-8 n (inl none) e = omega arith
-    not-8 n (inr some) e = false≢true (ap stateCode (sym e) ∙ some)
+    let code : firstOf (bytesChecks b s) ≡ behindCode b (said s) = rw (read-then b s, read) in (
+      rw code (first-within (stateChecks b (said s)) refl),
+      ap (λ n. toldFor n (saidParts s) .stray) code ∙ ap (λ (t : Told). t .stray) (behind-told (saidParts s) b (said s)),
+    )
 
 read-at : (rs : List (List ℕ)) → AllRead rs → (k : ℕ) → k < length rs → readCode (getD rs k []) ≡ 0
 read-at [] all k there = absurd (omega arith)
 read-at (r ∷ rs) all zero there = all .0
 read-at (r ∷ rs) all (suc k) there = read-at rs (all .1) k (omega arith)
 
-pub typed-told : (b : Bench) (text : List ℕ) (k : ℕ) → k < length (rests (bytesIn text)) → OfState (taken b (restAt (bytesIn text) k) .told)
+typed-told : (b : Bench) (text : List ℕ) (k : ℕ) → k < length (rests (bytesIn text))
+    → OfState (taken b (restAt (bytesIn text) k) .told .code) × (taken b (restAt (bytesIn text) k) .told .stray ≡ noStray)
 typed-told b text k there = read-told b (restAt (bytesIn text) k) (read-at (rests (bytesIn text)) (assembled-passes text) k there)
+
+pub typed-codes : (b : Bench) (kit text room : List ℕ) → typedOf b kit text room .found .told .code ≡ 0
+    → (k : ℕ) → k < length (rests (bytesIn text))
+    → let bytes = recordAt (typedRoom b kit text room) (length (rests kit) + k) in
+    OfState (byteAt bytes 1) × ((byteAt bytes 2 ≡ 0) × (wordAt bytes 8 ≡ 0))
+typed-codes b kit text room accepted k there =
+    let verdict = verdictAt (kitPart b kit .bench) (bytesIn text) k in
+    let carries = record-carries 2 verdict (getD (lineNumbers text) k 0) in
+    let told = typed-told (benchAt (kitPart b kit .bench) (bytesIn text) k) text k there in
+    rw (pupil-record b kit text room accepted k there)
+    (told .0, (ap (λ (stray : Stray). stray .par) (told .1), carries .value ∙ ap (λ (stray : Stray). stray .value) (told .1)))
 
 -- A typed run told command by command, each an event of its own from its bytes; none where the run is refused.
 abbrev pub typedEvents : Bench → List ℕ → List ℕ → List ℕ → List Event

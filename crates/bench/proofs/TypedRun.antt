@@ -7,9 +7,10 @@ use mathlib.Core.Bool.{Bool, true, false, cond, _||_}
 use lib.ListN.{length}
 use lib.Dec.{eqb, ltb}
 use borrow.Author.Tests.{lt-ltb, le-ltb}
+use Rattle.report.specs.Record.{reportRoom}
 use Rattle.words.specs.BigEndian.{written}
 use Rattle.wire.specs.Codes.{_when_}
-use Rattle.wire.specs.Judge.{toldWith}
+use Rattle.wire.specs.Judge.{plain}
 use Rattle.walk.specs.Walk.{rests}
 use Rattle.text.specs.declared.findings.Finding.{Finding}
 use Rattle.text.specs.Findings.{Outcome, finding, nothing, whole, firstFound}
@@ -24,18 +25,18 @@ use Rattle.bench.specs.Steps.{refusedTyped}
 
 -- What is found of the run behind a text that was judged good: 21, then 27.
 abbrev runFindings : Bench → List ℕ → List Finding
-runFindings b room = whole (21 when ltb (length room) 8192) ∷ whole (soundCheck b) ∷ []
+runFindings b room = whole (21 when ltb (length room) reportRoom) ∷ whole (soundCheck b) ∷ []
 
 module _ (b : Bench) (kit text room : List ℕ) where
   -- A kit's list that is too long is found first.
-  pub kit-long : 4096 < length kit → typedFound b kit text room ≡ finding (toldWith 20 0) 0
+  pub kit-long : 4096 < length kit → typedFound b kit text room ≡ finding (plain 20) 0
   unfolding typedFound firstFound
   kit-long long = rw (lt-ltb 4096 (length kit) long) (go (ltb 32768 (length text)))
     where
       rest : List Finding
       rest = badLine text ∷ whole (20 when ltb 4096 (length (bytesIn text))) ∷ runFindings b room
 
-      go : (above : Bool) → firstFound (whole (20 when (above || true)) ∷ rest) ≡ finding (toldWith 20 0) 0
+      go : (above : Bool) → firstFound (whole (20 when (above || true)) ∷ rest) ≡ finding (plain 20) 0
       go true = refl
       go false = refl
 
@@ -68,17 +69,17 @@ module _ (b : Bench) (kit text room : List ℕ) where
       run-first : typedFound b kit text room ≡ firstFound (runFindings b room)
       run-first = text-first ∙ rw good
 
-      pub room-small : length room < 8192 → typedFound b kit text room ≡ finding (toldWith 21 0) 0
+      pub room-small : length room < reportRoom → typedFound b kit text room ≡ finding (plain 21) 0
       unfolding firstFound
-      room-small small = run-first ∙ rw (lt-ltb (length room) 8192 small)
+      room-small small = run-first ∙ rw (lt-ltb (length room) reportRoom small)
 
-      pub unsound : 8192 ≤ length room → benchSound b ≡ false → typedFound b kit text room ≡ finding (toldWith 27 0) 0
+      pub unsound : reportRoom ≤ length room → benchSound b ≡ false → typedFound b kit text room ≡ finding (plain 27) 0
       unfolding firstFound
-      unsound enough not-sound = run-first ∙ rw (le-ltb (length room) 8192 enough, not-sound)
+      unsound enough not-sound = run-first ∙ rw (le-ltb (length room) reportRoom enough, not-sound)
 
-      pub none-found : 8192 ≤ length room → benchSound b ≡ true → typedFound b kit text room ≡ nothing
+      pub none-found : reportRoom ≤ length room → benchSound b ≡ true → typedFound b kit text room ≡ nothing
       unfolding firstFound
-      none-found enough sound = run-first ∙ rw (le-ltb (length room) 8192 enough, sound)
+      none-found enough sound = run-first ∙ rw (le-ltb (length room) reportRoom enough, sound)
 
   -- What a run promises of its answer and of its room afterwards.
   abbrev pub Promise : TypedRan → List ℕ → Type 0

@@ -6,10 +6,12 @@ use mathlib.Core.Bool.{Bool, cond, not, _&&_}
 use lib.Dec.{eqb}
 use Rattle.wire.specs.declared.kinds.Kind.{Kind}
 use Rattle.wire.specs.declared.kinds.Command.{Command}
+use Rattle.wire.specs.declared.kinds.Parts.{Parts}
 use Rattle.wire.specs.declared.judging.Told.{Told}
 use Rattle.wire.specs.Codes.{Check, _when_, firstOf}
-use Rattle.wire.specs.Judge.{toldWith, toldOf, argChecks, firstBadIn, parOf}
-use Rattle.wire.specs.Read.{said, readChecks}
+use Rattle.wire.specs.Kind.{partsOf}
+use Rattle.wire.specs.Judge.{plain, toldOf, toldFor, argChecks}
+use Rattle.wire.specs.Read.{saidParts, said, readChecks}
 use Rattle.camera.specs.declared.Camera.{Camera}
 use Rattle.camera.specs.Camera.{executedOf, dark}
 use Rattle.store.specs.Checks.{codeOf, storeChecks}
@@ -19,15 +21,15 @@ use Rattle.bench.specs.declared.Verdict.{Verdict}
 use Rattle.bench.specs.declared.Carried.{Carried}
 use Rattle.bench.specs.Status.{soundCheck}
 
--- 01's number and parameter of each verdict.
+-- 01's number of each verdict, and what was wrong with the number.
 abbrev pub verdictOf : Verdict → Told
-verdictOf Verdict.Accepted = toldWith 0 0
-verdictOf Verdict.Unsound = toldWith 27 0
+verdictOf Verdict.Accepted = plain 0
+verdictOf Verdict.Unsound = plain 27
 verdictOf (Verdict.Misread refusal) = toldOf refusal
-verdictOf Verdict.Dark = toldWith 26 0
-verdictOf (Verdict.Denied denial) = toldWith (codeOf denial) 0
+verdictOf Verdict.Dark = plain 26
+verdictOf (Verdict.Denied denial) = plain (codeOf denial)
 
--- What carrying out answers: the code with its parameter, and the bench afterwards.
+-- What carrying out answers: what is told, and the bench afterwards.
 pub record Outcome : Type 0 where
   pub told : Told
   pub bench : Bench
@@ -42,9 +44,9 @@ cameraAfter camera c = cond (c .flag) camera (executedOf camera (c .kind))
 abbrev pub effectOf : Bench → Command → Bench
 effectOf b c = record { camera = cameraAfter (b .camera) c; store = appliedOf (b .store) c }
 
--- "A refused command changes no part of the state."
-abbrev pub outcomeFor : ℕ → Bench → Command → Outcome
-outcomeFor code b c = record { told = toldWith code (parOf code (firstBadIn c)); bench = cond (eqb code 0) (effectOf b c) b }
+-- "A refused command changes no part of the state." What is told of the numbers is told of these parts: the command's own, or its fields on the wire.
+abbrev pub outcomeFor : ℕ → Parts → Bench → Command → Outcome
+outcomeFor code parts b c = record { told = toldFor code parts; bench = cond (eqb code 0) (effectOf b c) b }
 
 -- 02, Q-3: "26, executed commands only".
 abbrev pub row26 : Bool → Bool → Kind → Bool
@@ -70,7 +72,7 @@ carryCode b c = firstOf (carryChecks b c)
 
 unfoldable pub carryOut : Bench → Command → Outcome
 unfolding carryCode
-carryOut b c = outcomeFor (carryCode b c) b c
+carryOut b c = outcomeFor (carryCode b c) (partsOf (c .kind)) b c
 
 -- Rows 1 to 10, 26, 11 to 19 and 25, on bytes.
 abbrev pub bytesChecks : Bench → List ℕ → List Check
@@ -78,7 +80,7 @@ bytesChecks b s = readChecks s ++ stateChecks b (said s)
 
 -- The same rows on a bench that is known to be sound: what a run does with each command.
 unfoldable pub taken : Bench → List ℕ → Outcome
-taken b s = outcomeFor (firstOf (bytesChecks b s)) b (said s)
+taken b s = outcomeFor (firstOf (bytesChecks b s)) (saidParts s) b (said s)
 
 -- "Carrying one out tries 27, then 1 to 19 from bytes": the first command alone.
 abbrev pub carryBytesChecks : Bench → List ℕ → List Check
@@ -89,4 +91,4 @@ carryBytesCode b s = firstOf (carryBytesChecks b s)
 
 unfoldable pub carryOutBytes : Bench → List ℕ → Outcome
 unfolding carryBytesCode
-carryOutBytes b s = outcomeFor (carryBytesCode b s) b (said s)
+carryOutBytes b s = outcomeFor (carryBytesCode b s) (saidParts s) b (said s)

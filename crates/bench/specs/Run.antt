@@ -6,9 +6,10 @@ use lib.ListN.{length}
 use lib.Dec.{ltb, eqb}
 use Rattle.words.specs.BigEndian.{written}
 use Rattle.wire.specs.Codes.{Check, _when_, firstOf}
+use Rattle.wire.specs.declared.judging.Told.{Told}
 use Rattle.walk.specs.Walk.{rests}
 use Rattle.walk.specs.Shown.{tooLong}
-use Rattle.report.specs.Record.{recordBytes}
+use Rattle.report.specs.Record.{recordBytes, reportRoom}
 use Rattle.bench.specs.declared.Bench.{Bench}
 use Rattle.bench.specs.declared.lists.Ran.{Ran}
 use Rattle.bench.specs.declared.lists.Begun.{Begun}
@@ -28,14 +29,18 @@ numbersFrom number (r ∷ rs) = number ∷ numbersFrom (number + 1) rs
 abbrev pub ownNumbers : List ℕ → List ℕ
 ownNumbers s = numbersFrom 1 (rests s)
 
--- "Each command, accepted or not, gets an 8-byte record": the commands as each finds the list, and beside them the numbers of their records.
+-- The record of what was told of a command.
+abbrev pub recordOf : ℕ → Told → ℕ → List ℕ
+recordOf sender told number = recordBytes sender (told .code) (told .stray .par) number (told .stray .value)
+
+-- "Each command, accepted or not, gets" a record: the commands as each finds the list, and beside them the numbers of their records.
 unfoldable pub runRests : Bench → ℕ → List ℕ → List (List ℕ) → Listed
 runRests b sender [] rs = record { bench = b; records = [] }
 runRests b sender (number ∷ numbers) [] = record { bench = b; records = [] }
 runRests b sender (number ∷ numbers) (r ∷ rs) =
     let now = taken b r in
     let later = runRests (now .bench) sender numbers rs in
-    record { bench = later .bench; records = recordBytes sender (now .told .code) (now .told .par) number ++ later .records }
+    record { bench = later .bench; records = recordOf sender (now .told) number ++ later .records }
 
 -- One sender's list from its start, with these numbers, or with its own.
 abbrev pub runList : Bench → ℕ → List ℕ → List ℕ → Listed
@@ -55,9 +60,9 @@ pupilWith b kit numbers pupil = runList (kitPart b kit .bench) 2 numbers pupil
 abbrev pub pupilPart : Bench → List ℕ → List ℕ → Listed
 pupilPart b kit pupil = pupilWith b kit (ownNumbers pupil) pupil
 
--- "Whole runs: 20, either list longer than 4,096 bytes; then 21, report room below 8,192 bytes; then 27".
+-- "Whole runs: 20, either list longer than 4,096 bytes; then 21, report room below" what 02's Q-6 says; "then 27".
 abbrev pub runChecks : Bench → List ℕ → List ℕ → List ℕ → List Check
-runChecks b kit pupil room = 20 when tooLong kit pupil ∷ 21 when ltb (length room) 8192 ∷ soundCheck b ∷ []
+runChecks b kit pupil room = 20 when tooLong kit pupil ∷ 21 when ltb (length room) reportRoom ∷ soundCheck b ∷ []
 
 unfoldable pub runCode : Bench → List ℕ → List ℕ → List ℕ → ℕ
 runCode b kit pupil room = firstOf (runChecks b kit pupil room)

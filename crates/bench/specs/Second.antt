@@ -6,7 +6,7 @@ use lib.ListN.{length, take, replicate}
 use Rattle.wire.specs.declared.kinds.Kind.{Kind}
 use Rattle.wire.specs.declared.judging.Told.{Told}
 use Rattle.wire.specs.Codes.{firstOf}
-use Rattle.wire.specs.Judge.{toldWith}
+use Rattle.wire.specs.Judge.{plain}
 use Rattle.camera.specs.declared.Camera.{Camera}
 use Rattle.camera.specs.Camera.{executedOf, cameraSecond, dark}
 use Rattle.store.specs.Effects.{kindsIn, nextGroup, afterSecond}
@@ -59,7 +59,7 @@ benchAfter b = record { camera = executedAll (cameraSecond (b .camera)) (nextGro
 unfoldable pub secondAt : Bench → SecondTold
 secondAt b =
     record {
-      told = toldWith (firstOf (soundCheck b ∷ [])) 0;
+      told = plain (firstOf (soundCheck b ∷ []));
       bench = cond (benchSound b) (benchAfter b) b;
       handed = cond (benchSound b) (nextGroup (b .store)) [];
       codes = cond (benchSound b) (handedCodes (cameraSecond (b .camera)) (nextGroup (b .store))) [];

@@ -4,13 +4,15 @@
 use Prim.Native.Nat.{ℕ}
 use mathlib.Core.Path.{_≡_}
 use mathlib.Core.List.{List, [], _∷_, _++_}
-use mathlib.Core.Bool.{Bool, true}
+use mathlib.Core.Bool.{Bool, true, cond}
 use lib.ListN.{length}
+use lib.Dec.{eqb}
 use Rattle.wire.specs.declared.kinds.Kind.{Kind}
 use Rattle.wire.specs.declared.kinds.Command.{Command}
 use Rattle.wire.specs.Codes.{Check, firstOf}
-use Rattle.wire.specs.Judge.{toldWith, argChecks}
-use Rattle.wire.specs.Read.{Answer, answerFor, readChecks, said}
+use Rattle.wire.specs.Kind.{partsOf}
+use Rattle.wire.specs.Judge.{plain, argChecks}
+use Rattle.wire.specs.Read.{Answer, answerFor, readChecks, saidParts, said}
 use Rattle.camera.specs.declared.Camera.{Camera}
 use Rattle.store.specs.declared.tally.Tally.{Tally}
 use Rattle.store.specs.declared.tally.Survey.{Survey}
@@ -44,25 +46,29 @@ pub record AtWork (w : Works) (pool : List ℕ) : Type 0 where
   pub sound : benchSound (benchOf w pool) ≡ true
   pub tallied : Tallied (storeOf pool (w .tally)) (w .tally)
 
--- What a decision says: a code with its parameter, and the command where the code is 0.
+-- What a decision says: what is told, and the command where the code is 0.
 abbrev pub decisionOf : Decision → Answer
-decisionOf (Decision.Accepted c) = record { told = toldWith 0 0; taken = c ∷ [] }
+decisionOf (Decision.Accepted c) = record { told = plain 0; taken = c ∷ [] }
 decisionOf (Decision.Refused verdict) = record { told = verdictOf verdict; taken = [] }
 
 -- Row 26 and the store's, on a command that was read or judged.
 abbrev pub behindChecks : Bool → Tally → Command → List Check
 behindChecks power t c = darkCheck power c ∷ tallyChecks t c
 
+-- They ask for no number, so that nothing is told of one.
+abbrev pub permittedWith : ℕ → Command → Answer
+permittedWith code c = record { told = plain code; taken = cond (eqb code 0) (c ∷ []) [] }
+
 unfoldable pub permittedBy : Bool → Tally → Command → Answer
-permittedBy power t c = answerFor (firstOf (behindChecks power t c)) c
+permittedBy power t c = permittedWith (firstOf (behindChecks power t c)) c
 
 -- Rows 8 to 10 before those, on a decoded command.
 unfoldable pub decidedBy : Bool → Tally → Command → Answer
-decidedBy power t c = answerFor (firstOf (argChecks c ++ behindChecks power t c)) c
+decidedBy power t c = answerFor (firstOf (argChecks c ++ behindChecks power t c)) (partsOf (c .kind)) c
 
 -- Rows 1 to 10 before those, on bytes.
 unfoldable pub decidedIn : Bool → Tally → List ℕ → Answer
-decidedIn power t s = answerFor (firstOf (readChecks s ++ behindChecks power t (said s))) (said s)
+decidedIn power t s = answerFor (firstOf (readChecks s ++ behindChecks power t (said s))) (saidParts s) (said s)
 
 -- A bench after a command took effect by the tally of its macros.
 abbrev pub effectBy : Bench → Tally → Command → Bench
@@ -86,7 +92,7 @@ surveyed b = record { sound = benchSound b; tally = tallyOf (b .store) }
 
 -- A second of a bench that is not sound.
 abbrev pub stayedAt : Bench → SecondTold
-stayedAt b = record { told = toldWith 27 0; bench = b; handed = []; codes = [] }
+stayedAt b = record { told = plain 27; bench = b; handed = []; codes = [] }
 
 -- What executing a group leaves: the camera, and the codes in their places.
 abbrev pub executedWith : Camera → List Kind → Executed

@@ -7,8 +7,9 @@ use lib.ListN.{length}
 use lib.Dec.{ltb, eqb}
 use Rattle.words.specs.BigEndian.{written}
 use Rattle.wire.specs.Codes.{_when_}
-use Rattle.wire.specs.Judge.{toldWith}
+use Rattle.wire.specs.Judge.{plain}
 use Rattle.walk.specs.Walk.{rests}
+use Rattle.report.specs.Record.{reportRoom}
 use Rattle.text.specs.declared.findings.Finding.{Finding}
 use Rattle.text.specs.Findings.{finding, nothing, whole, firstFound, toldFault}
 use Rattle.text.specs.Assemble.{lineNumbers, bytesIn, badLine}
@@ -25,7 +26,7 @@ typedFindings b kit text room =
     whole (20 when (ltb 32768 (length text) || ltb 4096 (length kit)))
     ∷ badLine text
     ∷ whole (20 when ltb 4096 (length (bytesIn text)))
-    ∷ whole (21 when ltb (length room) 8192)
+    ∷ whole (21 when ltb (length room) reportRoom)
     ∷ whole (soundCheck b)
     ∷ []
 
@@ -43,13 +44,13 @@ typedPart b kit text = pupilWith b kit (lineNumbers text) (bytesIn text)
 abbrev pub typedReport : Bench → List ℕ → List ℕ → List ℕ
 typedReport b kit text = reportWith b kit (lineNumbers text) (bytesIn text)
 
--- The code, parameter and line of each answer.
+-- What is told of each answer, and its line.
 abbrev pub begunFinding : TypedBegun → Finding
 begunFinding TypedBegun.Done = nothing
-begunFinding TypedBegun.TooLong = finding (toldWith 20 0) 0
+begunFinding TypedBegun.TooLong = finding (plain 20) 0
 begunFinding (TypedBegun.BadLine number fault) = finding (toldFault fault) number
-begunFinding TypedBegun.RoomTooSmall = finding (toldWith 21 0) 0
-begunFinding TypedBegun.Unsound = finding (toldWith 27 0) 0
+begunFinding TypedBegun.RoomTooSmall = finding (plain 21) 0
+begunFinding TypedBegun.Unsound = finding (plain 27) 0
 
 -- What such a run answers: what was found, the bench afterwards, and the number of records for each sender; counts of zero on a refusal.
 pub record TypedTold : Type 0 where

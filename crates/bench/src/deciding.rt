@@ -1,5 +1,7 @@
 // What becomes of a command, by the power and the tally of the macros alone: it is accepted, or refused with a verdict.
 ghost use mathlib.Core.Path.{_≡_};
+ghost use Rattle.words.specs.BigEndian.{written};
+ghost use Rattle.bench.specs.Run.{recordOf};
 ghost use Rattle.bench.specs.Steps.{decisionOf, permittedBy, decidedBy, decidedIn};
 use super::Verdict;
 use super::told_of;
@@ -15,13 +17,28 @@ pub enum Decision {
     Refused(Verdict),
 }
 
-// The code and parameter of a decision.
-pub fn told_by(decision: Decision) -> Told
-    ensures { λ r. ⌜ r ≡ decisionOf decision .told ⌝ }
+// The record of what is told of a command, at the front of a room.
+fn put_told(room: &mut [u8], sender: u8, told: Told, number: u32)
+    ensures { λ r. ⌜ now (room .exit) ≡ written (recordOf sender told number) (now (room .entry)) ⌝ }
+{
+    report::put_record(
+        room,
+        sender,
+        told.code,
+        told.stray.par,
+        number,
+        told.stray.value,
+    );
+}
+
+// The record of a decision. That of an accepted command is put by itself, for there all but the sender and the number are constants: most commands are
+// accepted, and with one call for both the compiler carries code, parameter and value along for each of them (speed/README.md has the figures).
+pub fn put_decided(room: &mut [u8], sender: u8, decision: Decision, number: u32)
+    ensures { λ r. ⌜ now (room .exit) ≡ written (recordOf sender (decisionOf decision .told) number) (now (room .entry)) ⌝ }
 {
     match decision {
-        Decision::Accepted(_) => told_of(Verdict::Accepted),
-        Decision::Refused(verdict) => told_of(verdict),
+        Decision::Accepted(_) => put_told(room, sender, told_of(Verdict::Accepted), number),
+        Decision::Refused(verdict) => put_told(room, sender, told_of(verdict), number),
     }
 }
 

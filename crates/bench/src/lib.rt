@@ -21,7 +21,6 @@ use deciding::decide_bytes;
 use frame::Frame;
 use frame::Pace;
 pub use lists::Begun;
-pub use lists::ROOM;
 pub use lists::Ran;
 pub use lists::TypedBegun;
 pub use lists::TypedRan;
@@ -90,19 +89,16 @@ struct Executed {
     codes: [u8; 64],
 }
 
-// The code and parameter of a verdict.
+// The code of a verdict, and what was wrong with the number.
 pub fn told_of(verdict: Verdict) -> Told
     ensures { λ r. ⌜ r ≡ verdictOf verdict ⌝ }
 {
     match verdict {
-        Verdict::Accepted => Told { code: 0, par: 0 },
-        Verdict::Unsound => Told { code: 27, par: 0 },
+        Verdict::Accepted => wire::plain(0),
+        Verdict::Unsound => wire::plain(27),
         Verdict::Misread(refusal) => wire::told_of(refusal),
-        Verdict::Dark => Told { code: DARK, par: 0 },
-        Verdict::Denied(denial) => Told {
-            code: store::code_of(denial),
-            par: 0,
-        },
+        Verdict::Dark => wire::plain(DARK),
+        Verdict::Denied(denial) => wire::plain(store::code_of(denial)),
     }
 }
 

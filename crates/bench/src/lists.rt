@@ -4,6 +4,7 @@ ghost use mathlib.Core.Path.{_≡_};
 ghost use lib.ListN.{length};
 ghost use Rattle.words.specs.BigEndian.{written};
 ghost use Rattle.walk.specs.Walk.{rests};
+ghost use Rattle.report.specs.Record.{recordLength};
 ghost use Rattle.bench.specs.Run.{begunCode, ownList, ranOf, runOf, roomAfter};
 ghost use Rattle.bench.specs.Steps.{benchOf, AtWork, refusedWith};
 
@@ -14,15 +15,12 @@ use super::Works;
 use super::bench_of;
 use super::deciding::Decision;
 use super::deciding::decide_bytes;
-use super::deciding::told_by;
+use super::deciding::put_decided;
 use super::survey;
 use super::take_effect;
 pub use typed::TypedBegun;
 pub use typed::TypedRan;
 pub use typed::finding_of;
-
-// The room that a run needs: a record for each command that two lists of the longest can have.
-pub const ROOM: usize = 8192;
 
 pub enum Begun {
     Done,
@@ -60,7 +58,7 @@ struct Part {
 // Carries a list out on a lent pool and puts the records of its commands, one after another, into the front of a room. Each command is judged by the
 // tally of the macros; the pool stays where it is, and an accepted append is put into it.
 fn run_list(works: Works, pool: &mut [u32; 576], list: &[u8], sender: u8, room: &mut [u8]) -> Part
-    requires { ⌜ (length (now list) ≤ 4096) × (length (rests (now list)) * 8 ≤ length (now room)) ⌝ }
+    requires { ⌜ (length (now list) ≤ 4096) × (length (rests (now list)) * recordLength ≤ length (now room)) ⌝ }
     requires { ⌜ AtWork works (now pool) ⌝ }
     ensures { λ r. ⌜ benchOf (r .works) (now (pool .exit)) ≡ ownList (benchOf works (now (pool .entry))) sender (now (list .entry)) .bench ⌝ }
     ensures { λ r. ⌜ (r .count ≡ length (rests (now (list .entry)))) × AtWork (r .works) (now (pool .exit)) ⌝ }
@@ -72,10 +70,9 @@ fn run_list(works: Works, pool: &mut [u32; 576], list: &[u8], sender: u8, room: 
     while at < list.len() {
         let rest = &list[at..];
         let decision = decide_bytes(works.camera.power, works.tally, rest);
-        let told = told_by(decision);
         let end = (count as usize) * report::RECORD;
         count += 1;
-        report::put_record(&mut room[end..], sender, told.code, told.par, count);
+        put_decided(&mut room[end..], sender, decision, count);
         at += wire::span(rest);
         match decision {
             Decision::Refused(_) => continue,
@@ -99,7 +96,7 @@ impl Bench {
         if walk::LONGEST < pupil.len() {
             return refused(self, Begun::ListTooLong);
         }
-        if room.len() < ROOM {
+        if room.len() < report::ROOM {
             return refused(self, Begun::RoomTooSmall);
         }
         let store = self.store;

@@ -8,7 +8,7 @@ use bench::Verdict;
 use store::Group;
 use wire::Kind;
 
-// The code and parameter of a verdict.
+// The code of a verdict, with what was wrong with the number.
 fn code(verdict: Verdict) {
     say::told(bench::told_of(verdict));
 }

@@ -17,7 +17,7 @@ const FLUSHES: usize = walk::LONGEST / words::WORD;
 const LIST: usize = walk::LONGEST + 1;
 
 // The largest room of a report; a line that asks for more gets this one.
-const ROOM: usize = bench::ROOM + report::RECORD;
+const ROOM: usize = report::ROOM + report::RECORD;
 
 // Where the bytes of the lists begin in a line of `run`, and of `shown`.
 const RUN: usize = 6;

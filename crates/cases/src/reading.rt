@@ -1,4 +1,4 @@
-// Reading one command: `read`, the code and parameter, or the command that was taken.
+// Reading one command: `read`, the code with what was wrong with the number, or the command that was taken.
 // `again` writes a taken command again, into a room of 40 bytes.
 use super::rooms;
 use super::say;

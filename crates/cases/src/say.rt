@@ -1,11 +1,15 @@
-// Printing an answer: a code with its parameter, bytes in hex or as text, or a command that was taken.
+// Printing an answer: a code with what was wrong with the number, bytes in hex or as text, or a command that was taken.
 // Such a command is printed with its flag, its name and its own arguments, goals by their bits.
 use super::lines;
 use wire::Command;
 use wire::Form;
 use wire::Kind;
 use wire::Layout;
+use wire::Stray;
 use wire::Told;
+
+// The code of an argument out of range, which alone has numbers beside it.
+const OUT_OF_RANGE: u8 = 8;
 
 // Bytes as they are.
 pub fn text(s: &[u8]) {
@@ -84,10 +88,22 @@ pub fn flag(name: &[u8], on: bool) {
     }
 }
 
-// A code and its parameter.
+// Is there anything but zeros in the value and its limits?
+fn has_numbers(stray: Stray) -> bool {
+    stray.value != 0 || stray.low != 0 || stray.high != 0
+}
+
+// A code and its parameter; behind code 8 the value found and the lowest and the highest allowed. With any other code these are 0 and left out, but
+// printed where they are not, so that none goes unseen.
 pub fn told(t: Told) {
+    let stray = t.stray;
     field8(b"code ", t.code);
-    field8(b" par ", t.par);
+    field8(b" par ", stray.par);
+    if t.code == OUT_OF_RANGE || has_numbers(stray) {
+        field(b" value ", stray.value as u64);
+        field(b" low ", stray.low as u64);
+        field(b" high ", stray.high as u64);
+    }
 }
 
 // Where in the names below that of a form begins.

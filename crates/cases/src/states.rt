@@ -50,7 +50,7 @@ fn records(kit: u32, pupil: u32, room: &[u8]) {
 
 // A run of two raw lists.
 fn run(b: Bench, list: &[u8]) {
-    let mut room = [rooms::FILL; bench::ROOM];
+    let mut room = [rooms::FILL; report::ROOM];
     let ran = b.run(list, list, &mut room);
     let begun = ran.begun;
     answer(b", run ", bench::code_of(begun), b, ran.bench);
@@ -59,7 +59,7 @@ fn run(b: Bench, list: &[u8]) {
 
 // A run of a raw list and a typed one.
 fn typed(b: Bench, list: &[u8]) {
-    let mut room = [rooms::FILL; bench::ROOM];
+    let mut room = [rooms::FILL; report::ROOM];
     let ran = b.run_typed(list, b"tlm_flush\n", &mut room);
     let begun = ran.begun;
     let found = bench::finding_of(begun);

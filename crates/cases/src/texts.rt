@@ -11,7 +11,7 @@ use text::Finding;
 use text::Translated;
 
 // The largest room; a line that asks for more gets this one.
-const ROOM: usize = 9000;
+const ROOM: usize = 13000;
 
 // Where the bytes begin in a line of `assemble` and `list`, and of `typed` and `line`.
 const SHORT: usize = 2;
@@ -26,7 +26,7 @@ const RECORDS: u32 = 8;
 // The longest text of `letters`.
 const LETTERS: usize = 64;
 
-// The code, the parameter, and the line or command, behind this name, that they are of.
+// The code with what was wrong with the number, and the line or command, behind this name, that they are of.
 fn told(found: Finding, name: &[u8]) {
     let told = found.told;
     say::told(told);

@@ -1,5 +1,5 @@
 -- What the list program prints, of the meanings: a refusal exactly where the pupil's list is too long, and else for each record of each sender the
--- line of that sender, of the record's own number and of the verdict on that command; and 01's transcript, whole.
+-- line of that sender, of the record's own number and of the verdict on that command; and 01's transcript, whole, as 02's Q-6 has it.
 use Prim.Native.Nat.{ℕ, _+_, _*_, _≤_, _<_}
 use mathlib.Core.Path.{_≡_, refl, sym, ap, _∙_}
 use mathlib.Core.List.{List, [], _∷_, _++_}
@@ -16,6 +16,7 @@ use Rattle.wire.specs.Read.{sumOf, readOf, spanOf}
 use Rattle.wire.specs.Judge.{judgeCode}
 use Rattle.wire.specs.Write.{commandBytes}
 use Rattle.walk.specs.Walk.{rests}
+use Rattle.report.specs.Record.{recordLength, reportRoom}
 use Rattle.bench.specs.declared.Bench.{Bench}
 use Rattle.bench.specs.declared.lists.Ran.{Ran}
 use Rattle.bench.specs.Carry.{taken}
@@ -30,13 +31,14 @@ use Rattle.listing.specs.Refusal.{refusalLine}
 use Rattle.listing.proofs.RecordLine.{lineFor, record-line}
 use Rattle.list.specs.Printed.{refusal, printed}
 
--- On a fresh bench, with the kit's list and a room of 8,192 bytes, a run is refused, with 20, exactly where the pupil's list is above 4,096 bytes.
-pub refused-20 : (pupil room : List ℕ) → length room ≡ 8192 → runOf freshBench kitBytes pupil room .code ≡ cond (ltb 4096 (length pupil)) 20 0
+-- On a fresh bench, with the kit's list and the room that a report needs, a run is refused, with 20, exactly where the pupil's list is above 4,096
+-- bytes.
+pub refused-20 : (pupil room : List ℕ) → length room ≡ reportRoom → runOf freshBench kitBytes pupil room .code ≡ cond (ltb 4096 (length pupil)) 20 0
 unfolding runOf kitBytes commandBytes bytesOf sumOf
 refused-20 pupil room long = rw (long, fresh-sound .sound)
 
 -- So what is printed is a refusal's line or the report's text, by the code of that run.
-module _ (b : Bench) (kit pupil room : List ℕ) (fresh : b ≡ freshBench) (own : kit ≡ kitBytes) (long : length room ≡ 8192) where
+module _ (b : Bench) (kit pupil room : List ℕ) (fresh : b ≡ freshBench) (own : kit ≡ kitBytes) (long : length room ≡ reportRoom) where
   code : runOf b kit pupil room .code ≡ cond (ltb 4096 (length pupil)) 20 0
   code =
       ap (λ c. runOf c kit pupil room .code) fresh
@@ -69,7 +71,7 @@ module _ (b : Bench) (kit pupil room : List ℕ) (r : Ran) (told : ranOf r ≡ r
   accepted : runOf b kit pupil room .code ≡ 0
   accepted = sym (ap (λ t. t .code) told) ∙ done
 
-  pub records-long : length (reportOf b kit pupil) ≡ (r .kit + r .pupil) * 8
+  pub records-long : length (reportOf b kit pupil) ≡ (r .kit + r .pupil) * recordLength
   records-long =
       omega (
         arith,
@@ -78,18 +80,18 @@ module _ (b : Bench) (kit pupil room : List ℕ) (r : Ran) (told : ranOf r ≡ r
         ap (λ t. t .pupil) told ∙ report.pupil-count b kit pupil room accepted,
       )
 
-  pub records-fit : length (reportOf b kit pupil) ≤ 8192
+  pub records-fit : length (reportOf b kit pupil) ≤ reportRoom
   records-fit =
       let passed = report.passed b kit pupil room accepted in
       report.report-fits b kit pupil (passed .kit-short) (passed .pupil-short)
 
-  pub records-front : take ((r .kit + r .pupil) * 8) (roomAfter b kit pupil room) ≡ reportOf b kit pupil
+  pub records-front : take ((r .kit + r .pupil) * recordLength) (roomAfter b kit pupil room) ≡ reportOf b kit pupil
   unfolding roomAfter runOf
   records-front =
       let enough = report.passed b kit pupil room accepted .enough in
       let stays = drop (length (reportOf b kit pupil)) room in
       rw (accepted, with-room (reportOf b kit pupil) room (omega (arith, enough, records-fit)))
-      (take-at (reportOf b kit pupil) stays ((r .kit + r .pupil) * 8) records-long)
+      (take-at (reportOf b kit pupil) stays ((r .kit + r .pupil) * recordLength) records-long)
 
 -- So the lines under the header are the kit's and then the pupil's, each with its own sender's numbers from 1 on and the verdict on that command.
 module _ (b : Bench) (kit pupil : List ℕ) where
@@ -101,24 +103,24 @@ module _ (b : Bench) (kit pupil : List ℕ) where
 
   pub kit-line : (k : ℕ) → k < length (rests kit) → lineAt (reportOf b kit pupil) k ≡ lineFor 1 (k + 1) (verdictAt b kit k)
   kit-line k there =
-      let fits : 8 * k + 8 ≤ length first = omega (arith, report.list-long b 1 kit) in
-      let front = ap (take 8) (drop-append-le (8 * k) first second (omega arith)) in
-      let whole = take-append-le 8 (drop (8 * k) first) second (omega (arith, length-drop (8 * k) first)) in
+      let fits : recordLength * k + recordLength ≤ length first = omega (arith, report.list-long b 1 kit) in
+      let front = ap (take recordLength) (drop-append-le (recordLength * k) first second (omega arith)) in
+      let whole = take-append-le recordLength (drop (recordLength * k) first) second (omega (arith, length-drop (recordLength * k) first)) in
       record-line (reportOf b kit pupil) k 1 (k + 1) (verdictAt b kit k) (front ∙ whole ∙ report.list-record b 1 kit k there)
 
   pub pupil-line : (k : ℕ) → k < length (rests pupil)
       → lineAt (reportOf b kit pupil) (length (rests kit) + k) ≡ lineFor 2 (k + 1) (verdictAt (kitPart b kit .bench) pupil k)
   pupil-line k there =
-      let place : 8 * (length (rests kit) + k) ≡ length first + 8 * k = omega (arith, report.list-long b 1 kit) in
-      let behind = ap (λ n. take 8 (drop n (first ++ second))) place ∙ ap (take 8) (drop-append-add first second (8 * k)) in
+      let place : recordLength * (length (rests kit) + k) ≡ length first + recordLength * k = omega (arith, report.list-long b 1 kit) in
+      let behind = ap (λ n. take recordLength (drop n (first ++ second))) place ∙ ap (take recordLength) (drop-append-add first second (recordLength * k)) in
       record-line (reportOf b kit pupil) (length (rests kit) + k) 2 (k + 1) (verdictAt (kitPart b kit .bench) pupil k)
       (behind ∙ report.list-record (kitPart b kit .bench) 2 pupil k there)
 
--- 01's transcript: what is printed for its example, whole.
+-- 01's transcript with the fifth column of 02's Q-6: what is printed for its example, whole.
 abbrev example : List ℕ
 example = bytesOf (0x01170003 ∷ 0x02000100 ∷ 0x03170103 ∷ 0x01500003 ∷ 0x00050000 ∷ 0x01550003 ∷ 0x015a0002 ∷ [])
 
-pub transcript : printed example ≡ ascii "from no code par\nkit 1 0 0\nkit 2 0 0\nkit 3 0 0\nkit 4 0 0\npupil 1 0 0\npupil 2 8 2\npupil 3 1 0\n"
+pub transcript : printed example ≡ ascii "from no code par val\nkit 1 0 0 0\nkit 2 0 0 0\nkit 3 0 0 0\nkit 4 0 0 0\npupil 1 0 0 0\npupil 2 8 2 0\npupil 3 1 0 0\n"
 unfolding printed kitBytes commandBytes bytesOf sumOf readOf judgeCode rests spanOf runRests taken reportText linesTo lineOf decimalIn
 transcript = refl
 

@@ -7,7 +7,7 @@ use lib.Dec.{ltb}
 use Rattle.bench.specs.Run.{reportOf}
 use Rattle.bench.specs.Status.{freshBench}
 use Rattle.listing.specs.Kit.{kitBytes}
-use Rattle.wire.specs.Judge.{toldWith}
+use Rattle.wire.specs.Judge.{plain}
 use Rattle.text.specs.Findings.{finding}
 use Rattle.listing.specs.declared.refusals.Numbered.{Numbered}
 use Rattle.listing.specs.Text.{reportText}
@@ -15,7 +15,7 @@ use Rattle.listing.specs.Refusal.{refusalLine}
 
 -- The line of a run that was refused: a finding of the whole, so that it names no line.
 abbrev pub refusal : ℕ → List ℕ
-refusal code = refusalLine Numbered.Lines (finding (toldWith code 0) 0)
+refusal code = refusalLine Numbered.Lines (finding (plain code) 0)
 
 -- "Input above 4,096 bytes prints only `refused 20`"; of other input the report of the kit's list and then the pupil's, run on a fresh bench.
 unfoldable pub printed : List ℕ → List ℕ

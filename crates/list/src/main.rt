@@ -4,16 +4,13 @@ ghost use mathlib.Core.Path.{_≡_};
 ghost use Prim.Native.Nat.{_≤_};
 ghost use mathlib.Core.List.{_++_};
 ghost use lib.ListN.{length, drop};
-ghost use Rattle.wire.specs.Judge.{toldWith};
-ghost use Rattle.text.specs.Findings.{finding};
+ghost use Rattle.report.specs.Record.{reportRoom};
 ghost use Rattle.listing.specs.Text.{textRoom};
 ghost use Rattle.list.specs.Printed.{printed};
 use bench::Bench;
 use libc::STDERR_FILENO;
 use libc::STDOUT_FILENO;
 use listing::Numbered;
-use text::Finding;
-use wire::Told;
 
 // A list of the longest and one byte more, so that a longer list is seen to be one.
 const INPUT: usize = walk::LONGEST + 1;
@@ -24,31 +21,21 @@ fn input_room() -> [u8; INPUT]
     [0; INPUT]
 }
 
-fn report_room() -> [u8; bench::ROOM]
-    ensures { λ r. ⌜ 8192 ≡ length r ⌝ }
+fn report_room() -> [u8; report::ROOM]
+    ensures { λ r. ⌜ reportRoom ≡ length r ⌝ }
 {
-    [0; bench::ROOM]
+    [0; report::ROOM]
 }
 
 fn text_room() -> [u8; listing::TEXT]
-    ensures { λ r. ⌜ textRoom 8192 ≡ length r ⌝ }
+    ensures { λ r. ⌜ textRoom reportRoom ≡ length r ⌝ }
 {
     [0; listing::TEXT]
 }
 
-// A finding of the whole run, without a line and a parameter.
-fn found_with(code: u8) -> Finding
-    ensures { λ r. ⌜ r ≡ finding (toldWith code 0) 0 ⌝ }
-{
-    Finding {
-        told: Told { code, par: 0 },
-        number: 0,
-    }
-}
-
 // Puts what is to be printed for a pupil's list at the front of a text, and says how many bytes that is.
 fn put_printed(text: &mut [u8], pupil: &[u8]) -> usize
-    requires { ⌜ textRoom 8192 ≤ length (now text) ⌝ }
+    requires { ⌜ textRoom reportRoom ≤ length (now text) ⌝ }
     ensures { λ r. ⌜ r ≡ length (printed (now (pupil .entry))) ⌝ }
     ensures { λ r. ⌜ now (text .exit) ≡ printed (now (pupil .entry)) ++ drop (length (printed (now (pupil .entry)))) (now (text .entry)) ⌝ }
 {
@@ -59,7 +46,7 @@ fn put_printed(text: &mut [u8], pupil: &[u8]) -> usize
     let begun = ran.begun;
     let code = bench::code_of(begun);
     if code != 0 {
-        return listing::bytes_of(listing::put_refusal(text, Numbered::Lines, found_with(code)));
+        return listing::bytes_of(listing::put_refusal(text, Numbered::Lines, text::of_whole(code)));
     }
     let end = (ran.kit as usize + ran.pupil as usize) * report::RECORD;
     listing::bytes_of(listing::put_report(text, &records[..end]))

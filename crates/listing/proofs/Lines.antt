@@ -11,6 +11,7 @@ use Rattle.words.specs.BigEndian.{byteAt, written}
 use Rattle.words.specs.Text.{ascii, decimal}
 use Rattle.words.proofs.Laws.{with-room}
 use Rattle.words.proofs.Decimal.{digits-few, digits-below}
+use Rattle.report.specs.Record.{recordLength}
 use Rattle.listing.specs.declared.Fields.{Fields}
 use Rattle.listing.specs.declared.Put.{Put}
 use Rattle.listing.specs.Answer.{answerOf, answerFor}
@@ -20,7 +21,6 @@ use Rattle.listing.specs.Text.{
   lineFeed,
   nameOf,
   lineOf,
-  recordLength,
   fieldsAt,
   lineAt,
   linesTo,
@@ -57,7 +57,8 @@ name-few sender = name-within sender 11 (omega arith) (omega (arith, digits-few 
 -- A line is as long as its fields with what stands behind each.
 pub length-line : (f : Fields)
     → length (lineOf f)
-    ≡ length (nameOf (f .sender)) + length (ended (f .number) blank) + length (ended (f .code) blank) + length (ended (f .par) lineFeed)
+    ≡ length (nameOf (f .sender)) + length (ended (f .number) blank) + length (ended (f .code) blank) + length (ended (f .par) blank)
+    + length (ended (f .value) lineFeed)
 unfolding lineOf
 length-line f = simp length-append
 
@@ -72,8 +73,10 @@ line-short f hs hc hp =
       digits-few 10 (f .number),
       length-ended (f .code) blank,
       digits-below 10 2 (f .code) (omega arith),
-      length-ended (f .par) lineFeed,
+      length-ended (f .par) blank,
       digits-below 10 2 (f .par) (omega arith),
+      length-ended (f .value) lineFeed,
+      digits-few 10 (f .value),
     )
 
 -- The lines of one record more.
@@ -94,7 +97,7 @@ lines-within report k (suc n) before = go (ltb k n) refl (λ earlier. lines-with
         rw (same, length-lines report n) (omega arith)
 
 -- A report's text is a header and the lines, and where the report's elements are bytes, what is said to be room enough is.
-pub length-text : (report : List ℕ) → length (reportText report) ≡ 17 + length (linesOf report)
+pub length-text : (report : List ℕ) → length (reportText report) ≡ length headerLine + length (linesOf report)
 unfolding reportText
 length-text report = length-append headerLine (linesOf report)
 

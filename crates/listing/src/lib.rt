@@ -5,8 +5,9 @@ ghost use lib.ListN.{length};
 ghost use lib.Dec.{leb};
 ghost use lib.Seq.{sets};
 ghost use Rattle.words.specs.BigEndian.{written};
+ghost use Rattle.report.specs.Record.{recordLength};
 ghost use Rattle.listing.specs.Kit.{kitBytes};
-ghost use Rattle.listing.specs.Text.{ended, nameOf, recordLength, fieldsAt, lineOf, linesOf, reportText, textRoom};
+ghost use Rattle.listing.specs.Text.{ended, nameOf, fieldsAt, lineOf, linesOf, reportText, textRoom};
 ghost use Rattle.listing.specs.Answer.{answerOf, answerFor};
 
 mod refusals;
@@ -17,15 +18,12 @@ pub use refusals::put_outcome;
 pub use refusals::put_refusal;
 
 // The bytes of the header, and of the longest line.
-const HEADER: usize = 17;
+const HEADER: usize = 21;
 
-const LINE: usize = 25;
-
-// The most records of a run: 512 for each of two lists of 4,096 bytes.
-const RECORDS: usize = 1024;
+const LINE: usize = 36;
 
 // The room that the text of the longest report needs. A refusal's line needs less.
-pub const TEXT: usize = HEADER + RECORDS * LINE;
+pub const TEXT: usize = HEADER + report::RECORDS * LINE;
 
 const BLANK: u8 = b' ';
 
@@ -53,6 +51,7 @@ pub struct Fields {
     number: u32,
     code: u32,
     par: u32,
+    value: u32,
 }
 
 // The kit's own list: power on; region 0 0; algorithm 0; auto flush 1.
@@ -127,11 +126,13 @@ fn fields_at(records: &[u8], place: usize) -> Fields
     let code = words::byte_at(records, at + 1) as u32;
     let par = words::byte_at(records, at + 2) as u32;
     let number = words::word_at(records, at + 4);
+    let value = words::word_at(records, at + 8);
     Fields {
         sender,
         number,
         code,
         par,
+        value,
     }
 }
 
@@ -143,7 +144,8 @@ fn line_length(fields: Fields) -> usize
         + words::places(fields.number)
         + words::places(fields.code)
         + words::places(fields.par)
-        + 3
+        + words::places(fields.value)
+        + 4
 }
 
 // Puts a line into a room, from a place on, and says which place comes next.
@@ -155,7 +157,8 @@ fn put_line(room: &mut [u8], at: usize, fields: Fields) -> usize
     let at = put_name(room, at, fields.sender);
     let at = put_field(room, at, fields.number, BLANK);
     let at = put_field(room, at, fields.code, BLANK);
-    put_field(room, at, fields.par, LINE_FEED)
+    let at = put_field(room, at, fields.par, BLANK);
+    put_field(room, at, fields.value, LINE_FEED)
 }
 
 // Is there room for the text of a report in so many bytes? They are counted down line by line, since the sum might be too large a number.
@@ -198,6 +201,6 @@ pub fn put_report(room: &mut [u8], records: &[u8]) -> Put
     if !fits(records, room.len()) {
         return Put::NoRoom;
     }
-    let at = words::put_at(room, 0, b"from no code par\n");
+    let at = words::put_at(room, 0, b"from no code par val\n");
     Put::Done(put_lines(room, at, records))
 }

@@ -1,4 +1,4 @@
-// The line that says why something was refused, and where: `refused 20`, `refused 30 line 4`, `refused 8 line 4 par 1`.
+// The line that says why something was refused, and where: `refused 20`, `refused 30 line 4`, `refused 8 line 4 par 1 val 2 from 0 to 1`.
 ghost use Prim.Native.Nat.{_+_, _≤_};
 ghost use mathlib.Core.Path.{_≡_};
 ghost use lib.ListN.{length};
@@ -6,16 +6,17 @@ ghost use lib.Seq.{sets};
 ghost use Rattle.words.specs.BigEndian.{written};
 ghost use Rattle.text.specs.Findings.{translatedOf};
 ghost use Rattle.listing.specs.Answer.{answerOf, answerFor};
-ghost use Rattle.listing.specs.Refusal.{wordOf, placeText, refusalLine, refusalRoom, outputFor, roomFor};
+ghost use Rattle.listing.specs.Refusal.{labelled, wordOf, strayText, placeText, refusalLine, refusalRoom, outputFor, roomFor};
 use super::Put;
 use super::bytes_of;
 use text::Finding;
 use text::Translated;
+use wire::Stray;
 
 // The bytes of the longest line.
-const LONGEST: usize = 36;
+const LONGEST: usize = 81;
 
-// The code that has a parameter: a number out of range.
+// The code that says what was wrong with a number: it is out of range.
 const OUT_OF_RANGE: u8 = 8;
 
 // What a finding's number counts: the lines of a text, or the commands of a raw list.
@@ -30,6 +31,16 @@ pub struct Output {
     pub refused: bool,
 }
 
+// Puts a number behind its label, from a place on, and says which place comes next.
+fn put_labelled(room: &mut [u8], at: usize, label: &[u8], value: u32) -> usize
+    requires { ⌜ at + length (labelled (now label) value) ≤ length (now room) ⌝ }
+    ensures { λ r. ⌜ r ≡ at + length (labelled (now (label .entry)) value) ⌝ }
+    ensures { λ r. ⌜ now (room .exit) ≡ sets (now (room .entry)) at (labelled (now (label .entry)) value) ⌝ }
+{
+    let at = words::put_at(room, at, label);
+    words::put_decimal(room, at, value)
+}
+
 // Puts what a number counts, from a place on, and says which place comes next.
 fn put_word(room: &mut [u8], at: usize, numbered: Numbered) -> usize
     requires { ⌜ at + length (wordOf numbered) ≤ length (now room) ⌝ }
@@ -40,6 +51,18 @@ fn put_word(room: &mut [u8], at: usize, numbered: Numbered) -> usize
         Numbered::Lines => words::put_at(room, at, b" line "),
         Numbered::Commands => words::put_at(room, at, b" number "),
     }
+}
+
+// Puts what was wrong with a number, from a place on, and says which place comes next.
+fn put_stray(room: &mut [u8], at: usize, stray: Stray) -> usize
+    requires { ⌜ at + length (strayText stray) ≤ length (now room) ⌝ }
+    ensures { λ r. ⌜ r ≡ at + length (strayText stray) ⌝ }
+    ensures { λ r. ⌜ now (room .exit) ≡ sets (now (room .entry)) at (strayText stray) ⌝ }
+{
+    let at = put_labelled(room, at, b" par ", stray.par as u32);
+    let at = put_labelled(room, at, b" val ", stray.value);
+    let at = put_labelled(room, at, b" from ", stray.low);
+    put_labelled(room, at, b" to ", stray.high)
 }
 
 // Puts where a finding was made, from a place on, and says which place comes next.
@@ -57,8 +80,8 @@ fn put_place(room: &mut [u8], at: usize, numbered: Numbered, found: Finding) -> 
     if told.code != OUT_OF_RANGE {
         return at;
     }
-    let at = words::put_at(room, at, b" par ");
-    words::put_decimal(room, at, told.par as u32)
+    let stray = told.stray;
+    put_stray(room, at, stray)
 }
 
 // Puts the line of a finding at the front of a room, and says how many bytes it has.
@@ -68,8 +91,7 @@ fn put_found(room: &mut [u8], numbered: Numbered, found: Finding) -> usize
     ensures { λ r. ⌜ now (room .exit) ≡ sets (now (room .entry)) 0 (refusalLine numbered found) ⌝ }
 {
     let told = found.told;
-    let at = words::put_at(room, 0, b"refused ");
-    let at = words::put_decimal(room, at, told.code as u32);
+    let at = put_labelled(room, 0, b"refused ", told.code as u32);
     let at = put_place(room, at, numbered, found);
     words::put_at(room, at, b"\n")
 }
@@ -80,7 +102,7 @@ fn line_room() -> [u8; LONGEST]
     [0; LONGEST]
 }
 
-// Puts the line of a finding at the front of a room. 36 bytes are enough for it.
+// Puts the line of a finding at the front of a room. 81 bytes are enough for it.
 pub fn put_refusal(room: &mut [u8], numbered: Numbered, found: Finding) -> Put
     ensures { λ r. ⌜ answerOf r ≡ answerFor (refusalLine numbered found) (now (room .entry)) ⌝ }
     ensures { λ r. ⌜ now (room .exit) ≡ written (refusalLine numbered found) (now (room .entry)) ⌝ }

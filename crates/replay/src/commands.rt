@@ -28,11 +28,11 @@ fn written(out: &mut [u8], used: usize, command: Command, room: &mut [u8]) -> us
     }
 }
 
-// The code and parameter of reading a command and, where they are 0, what writing it gives.
+// What is told of reading a command and, where the code is 0, what writing it gives.
 fn taken(out: &mut [u8], used: usize, bytes: &[u8], room: &mut [u8]) -> usize {
     match wire::read_command(bytes) {
         Reading::Taken(command) => {
-            let used = output::text(out, used, b" 0 0");
+            let used = output::told(out, used, wire::plain(0));
             written(out, used, command, room)
         }
         Reading::Refused(refusal) => output::told(out, used, wire::told_of(refusal)),
@@ -47,7 +47,8 @@ fn read_line(out: &mut [u8], used: usize, bytes: &[u8], length: u8) -> usize {
     output::end(out, used)
 }
 
-// 07, a room's length of one byte, and the bytes of a command: `read CODE PAR`, or `read 0 0 CODE` with the code of the writing and the bytes.
+// 07, a room's length of one byte, and the bytes of a command: `read CODE PAR VALUE LOW HIGH`; where the code is 0, `read 0 0 0 0 0 CODE` with the
+// code of the writing, and the bytes.
 pub fn read(state: State, s: &[u8], out: &mut [u8]) -> State {
     let length = script::take(s, state.at, 1);
     let bytes = script::take_short(s, length.to);
@@ -65,7 +66,7 @@ fn carried_line(out: &mut [u8], used: usize, verdict: Verdict) -> usize {
     output::end(out, used)
 }
 
-// 01, the bytes of a command: `command CODE PAR`.
+// 01, the bytes of a command: `command CODE PAR VALUE LOW HIGH`.
 pub fn carry_out(state: State, s: &[u8], out: &mut [u8]) -> State {
     let bytes = script::take_short(s, state.at);
     if !bytes.whole {
@@ -101,7 +102,7 @@ fn decoded(flag: u8, row: u8, first: u32, second: u32) -> Command {
     }
 }
 
-// 09, a flag, a row and two arguments of four bytes: `decoded CODE PAR CODE`, with the second code of the writing, and the bytes.
+// 09, a flag, a row and two arguments of four bytes: `decoded CODE PAR VALUE LOW HIGH CODE`, with the second code of the writing, and the bytes.
 pub fn carry_out_decoded(state: State, s: &[u8], out: &mut [u8]) -> State {
     let flag = script::take(s, state.at, 1);
     let row = script::take(s, flag.to, 1);

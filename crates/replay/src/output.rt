@@ -1,5 +1,6 @@
 // The transcript: text is collected in a lent buffer, which is written out when it is full. Each function takes the buffer and how much of it is
 // used, and answers how much is used afterwards. `number` and `hex` put a blank before what they print.
+use wire::Stray;
 use wire::Told;
 
 // Writes out what the buffer holds, and begins it anew.
@@ -56,10 +57,19 @@ pub fn number(out: &mut [u8], used: usize, n: u64) -> usize {
     text(out, used, &digits[..count])
 }
 
-// A code and its parameter.
+// What was wrong with a number: the parameter, the value found, the lowest and the highest allowed.
+pub fn wrong(out: &mut [u8], used: usize, stray: Stray) -> usize {
+    let used = number(out, used, stray.par as u64);
+    let used = number(out, used, stray.value as u64);
+    let used = number(out, used, stray.low as u64);
+    number(out, used, stray.high as u64)
+}
+
+// A code, and what was wrong with the number.
 pub fn told(out: &mut [u8], used: usize, told: Told) -> usize {
+    let stray = told.stray;
     let used = number(out, used, told.code as u64);
-    number(out, used, told.par as u64)
+    wrong(out, used, stray)
 }
 
 // A byte as two hex digits.

@@ -5,10 +5,10 @@ use super::output;
 use super::script;
 
 // The largest room; a longer one counts as this.
-pub const LARGEST: usize = 9000;
+pub const LARGEST: usize = 13000;
 
 pub fn capped(length: u16) -> usize
-    ensures { λ r. ⌜ r ≤ 9000 ⌝ }
+    ensures { λ r. ⌜ r ≤ 13000 ⌝ }
 {
     if (length as usize) < LARGEST {
         length as usize

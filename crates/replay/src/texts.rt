@@ -14,15 +14,16 @@ pub enum Way {
     ToText,
 }
 
-// A code, the line or command that it is of, and its parameter.
+// A code, the line or command that it is of, and what was wrong with the number.
 fn finding(out: &mut [u8], used: usize, found: Finding) -> usize {
     let told = found.told;
+    let stray = told.stray;
     let used = output::number(out, used, told.code as u64);
     let used = output::number(out, used, found.number as u64);
-    output::number(out, used, told.par as u64)
+    output::wrong(out, used, stray)
 }
 
-// The end of a translation's line, ` CODE NUMBER PAR` and the bytes written, and the rest of the room.
+// The end of a translation's line, ` CODE NUMBER PAR VALUE LOW HIGH` and the bytes written, and the rest of the room.
 fn translated_lines(out: &mut [u8], used: usize, translated: Translated, room: &[u8]) -> usize {
     let size = text::bytes_of(translated);
     let used = finding(out, used, text::finding_of(translated));
@@ -46,8 +47,8 @@ fn translated(out: &mut [u8], used: usize, way: Way, bytes: &[u8], room: &mut [u
     }
 }
 
-// 0a, a room's length of two bytes, and a text: `assembled CODE LINE PAR` and the bytes of its list, and a line `rest`.
-// 0b, a room's length of two bytes, and a raw list: `listed CODE NUMBER PAR` and the bytes of its text, and a line `rest`.
+// 0a, a room's length of two bytes, and a text: `assembled CODE LINE PAR VALUE LOW HIGH` and the bytes of its list, and a line `rest`.
+// 0b, a room's length of two bytes, and a raw list: `listed CODE NUMBER PAR VALUE LOW HIGH` and the bytes of its text, and a line `rest`.
 pub fn translate(state: State, s: &[u8], out: &mut [u8], way: Way) -> State {
     let length = script::take(s, state.at, 2);
     let bytes = script::take_long(s, length.to);
@@ -80,7 +81,8 @@ fn carried(state: State, out: &mut [u8], kit: &[u8], text: &[u8], room: &mut [u8
     }
 }
 
-// 0c, a room's length of two bytes, the kit's raw list and a text: `typed CODE LINE PAR KIT PUPIL`, then the records and the rest as 03 has them.
+// 0c, a room's length of two bytes, the kit's raw list and a text: `typed CODE LINE PAR VALUE LOW HIGH KIT PUPIL`, then the records and the rest as
+// 03 has them.
 pub fn run(state: State, s: &[u8], out: &mut [u8]) -> State {
     let length = script::take(s, state.at, 2);
     let kit = script::take_long(s, length.to);

@@ -16,6 +16,6 @@ unwritten bytes room h = go (hasRoom bytes room) h
     go false h = refl
 
 -- Where `put_record` refused, the room is as it was.
-pub refused-leaves : (sender code par number : ℕ) (room : List ℕ) → putCode (recordBytes sender code par number) room ≢ 0
-    → written (recordBytes sender code par number) room ≡ room
-refused-leaves sender code par number room h = unwritten (recordBytes sender code par number) room h
+pub refused-leaves : (sender code par number value : ℕ) (room : List ℕ) → putCode (recordBytes sender code par number value) room ≢ 0
+    → written (recordBytes sender code par number value) room ≡ room
+refused-leaves sender code par number value room h = unwritten (recordBytes sender code par number value) room h

@@ -4,20 +4,39 @@ ghost use Rattle.words.specs.BigEndian.{written};
 ghost use Rattle.report.specs.Record.{recordBytes, codeOf, putCode};
 
 // The bytes of a record.
-pub const RECORD: usize = 8;
+pub const RECORD: usize = 12;
+
+// The most records of a run, 512 for each of two lists of 4,096 bytes, and the room that they need.
+pub const RECORDS: usize = 1024;
+
+pub const ROOM: usize = RECORDS * RECORD;
 
 pub enum Put {
     Done,
     NoRoom,
 }
 
-// A record at the front of a room: the sender, the code, the parameter, a spare 0, and the number.
-pub fn put_record(room: &mut [u8], sender: u8, code: u8, par: u8, number: u32) -> Put
-    ensures { λ r. ⌜ codeOf r ≡ putCode (recordBytes sender code par number) (now (room .entry)) ⌝ }
-    ensures { λ r. ⌜ now (room .exit) ≡ written (recordBytes sender code par number) (now (room .entry)) ⌝ }
+// A record at the front of a room: the sender, the code, the parameter, a spare 0, the number, and the value.
+pub fn put_record(room: &mut [u8], sender: u8, code: u8, par: u8, number: u32, value: u32) -> Put
+    ensures { λ r. ⌜ codeOf r ≡ putCode (recordBytes sender code par number value) (now (room .entry)) ⌝ }
+    ensures { λ r. ⌜ now (room .exit) ≡ written (recordBytes sender code par number value) (now (room .entry)) ⌝ }
 {
     let n = words::word_bytes(number);
-    let bytes = [sender, code, par, 0, n[0], n[1], n[2], n[3]];
+    let v = words::word_bytes(value);
+    let bytes = [
+        sender,
+        code,
+        par,
+        0,
+        n[0],
+        n[1],
+        n[2],
+        n[3],
+        v[0],
+        v[1],
+        v[2],
+        v[3],
+    ];
     if words::put_bytes(room, &bytes) {
         Put::Done
     } else {

@@ -18,6 +18,7 @@ use Rattle.wire.specs.Table.{rowOf, ruleOf}
 use Rattle.wire.specs.Kind.{kindOf}
 use Rattle.wire.specs.Judge.{firstBad}
 use Rattle.wire.proofs.Layouts.{found-form}
+use Rattle.wire.proofs.Ranges.{in-range-parts}
 use Rattle.store.specs.declared.Store.{Store}
 use Rattle.store.specs.Words.{bit, headOf, wordsOf, noCommand, commandFor, commandOf, commandsIn}
 use Rattle.store.specs.Pool.{countOf, isClosed, sizeOf, startOf, usedIn, between, entriesOf}
@@ -25,7 +26,7 @@ use Rattle.store.specs.WrittenOut.{mostIn, writtenOut}
 use Rattle.store.specs.Effects.{groupWords, shownAs, groupOf, kindAt, kindsIn}
 use Rattle.store.specs.GroupSteps.{Clear}
 use Rattle.store.specs.Sound.{allBelow, allOf, entryHolds, entriesHold, closedHolds, macroHolds, poolHolds, runningHolds, storeSound}
-use Rattle.store.proofs.Entries.{storedAs, commands-at, in-range-parts}
+use Rattle.store.proofs.Entries.{storedAs, commands-at}
 use Rattle.store.proofs.Kept.{entries-length}
 
 -- A kind whose words, with flag 1, say it again.

@@ -1,28 +1,25 @@
 -- What the words of the pool say: an entry put in among the words is put in among the commands, and an allowed command comes back from its words.
 use Prim.Native.Nat.{ℕ, zero, suc, _+_, _*_, _-_, _/_, _%_, _≤_}
 use mathlib.Core.Path.{_≡_, refl, ap, _∙_}
-use mathlib.Core.Logic.{_⊎_, inl, inr}
 use mathlib.Core.List.{List, [], _∷_, _++_}
-use mathlib.Core.Bool.{Bool, true, false, cond, _&&_}
+use mathlib.Core.Bool.{Bool, true, false, cond}
 use native.Mathlib.Nat.{mod-eq-of-lt}
 use native.Mathlib.Omega.{arith}
 use lib.ListN.{length, getD, take, drop, length-drop}
 use lib.Seq.{length-take-le}
-use lib.Dec.{leb, eqb}
-use borrow.Author.Tests.{leb-true, eqb-true, not-false}
-use Rattle.words.proofs.Tests.{both}
+use lib.Dec.{eqb}
+use borrow.Author.Tests.{eqb-true, not-false}
 use Rattle.wire.specs.declared.table.Form.{Form}
 use Rattle.wire.specs.declared.table.Found.{Found}
 use Rattle.wire.specs.declared.kinds.Kind.{Kind}
 use Rattle.wire.specs.declared.kinds.Command.{Command}
 use Rattle.wire.specs.declared.kinds.Parts.{Parts}
-use Rattle.wire.specs.Codes.{firstOf}
 use Rattle.wire.specs.Table.{rowOf, ruleOf}
-use Rattle.wire.specs.Kind.{partsWith, partsOf, kindOf}
-use Rattle.wire.specs.Judge.{firstBad, rowChecks, firstBadIn, judgeCode}
+use Rattle.wire.specs.Kind.{partsOf, kindOf}
+use Rattle.wire.specs.Judge.{badIn, judgeCode}
 use Rattle.wire.proofs.Order.{judge-order}
-use Rattle.wire.proofs.Goals.{goalAllowed, goal-allowed, bits-kept}
-use Rattle.wire.proofs.Layouts.{form-found, IsBits, Within, parts-kind}
+use Rattle.wire.proofs.Layouts.{form-found, Within}
+use Rattle.wire.proofs.Ranges.{in-range, in-range-judge}
 use Rattle.wire.proofs.RoundTrip.{Held, held-made}
 use Rattle.store.specs.declared.roles.Role.{Role}
 use Rattle.store.specs.Roles.{roleOf}
@@ -110,63 +107,6 @@ commands-at (a ∷ b ∷ c ∷ ws) (suc i) h =
 abbrev commandWith : Bool → Kind → Command
 commandWith flag kind = record { flag = flag; kind = kind }
 
--- Two arguments that are in range fit their fields.
-both-in : (a b : Bool) → _≡_ {A = ℕ} (cond a (cond b 0 2) 1) 0 → (a ≡ true) × (b ≡ true)
-both-in true true e = (refl, refl)
-both-in true false e = absurd (omega arith)
-both-in false b e = absurd (omega arith)
-
-at-most : (low high value : ℕ) → (leb low value && leb value high) ≡ true → value ≤ high
-at-most low high value e = leb-true value high (both (leb low value) (leb value high) e .1)
-
-record Ranged (high1 high2 first second : ℕ) : Type 0 where
-  one : first ≤ high1
-  two : second ≤ high2
-
-ranged : (low1 high1 low2 high2 first second : ℕ)
-    → _≡_ {A = ℕ} (cond (leb low1 first && leb first high1) (cond (leb low2 second && leb second high2) 0 2) 1) 0
-    → Ranged high1 high2 first second
-ranged low1 high1 low2 high2 first second e =
-    let tests = both-in (leb low1 first && leb first high1) (leb low2 second && leb second high2) e in
-    record { one = at-most low1 high1 first (tests .0); two = at-most low2 high2 second (tests .1) }
-
-goal-kept : (bits : ℕ) → goalAllowed bits ≡ true → IsBits bits
-goal-kept bits allowed = go (goal-allowed bits .0 allowed)
-  where
-    go : (bits ≤ 0x447fffff) ⊎ (bits ≡ 0x80000000) → IsBits bits
-    go (inl low) = bits-kept bits (omega arith) (λ above. omega arith)
-    go (inr minus) = bits-kept bits (omega arith) (λ above. omega arith)
-
-in-range : (form : Form) (first second : ℕ) → firstBad (rowOf form) first second ≡ 0 → Within (rowOf form .layout) first second
-in-range Form.ImgPwr first second e = let r = ranged 0 1 0 0 first second e in (omega (arith, r), omega (arith, r))
-in-range Form.ImgRegion first second e = let r = ranged 0 1023 0 1023 first second e in (omega (arith, r), omega (arith, r))
-in-range Form.ImgTrack first second e = let r = ranged 0 65535 1 65535 first second e in (omega (arith, r), omega (arith, r))
-in-range Form.TrkAlg first second e = let r = ranged 0 2 0 0 first second e in (omega (arith, r), omega (arith, r))
-in-range Form.TrkLoop first second e = let r = ranged 0 1 0 0 first second e in (omega (arith, r), omega (arith, r))
-in-range Form.ImgImage first second e = let r = ranged 0 65535 1 65535 first second e in (omega (arith, r), omega (arith, r))
-in-range Form.TrkGoal first second e =
-    let tests = both-in (goalAllowed first) (goalAllowed second) e in
-    (goal-kept first (tests .0), goal-kept second (tests .1))
-in-range Form.TlmFlush first second e = let r = ranged 0 0 0 0 first second e in (omega (arith, r), omega (arith, r))
-in-range Form.FlushAuto first second e = let r = ranged 0 1 0 0 first second e in (omega (arith, r), omega (arith, r))
-in-range Form.Open first second e = let r = ranged 0 7 0 0 first second e in (omega (arith, r), omega (arith, r))
-in-range Form.Close first second e = let r = ranged 0 0 0 0 first second e in (omega (arith, r), omega (arith, r))
-in-range Form.Run first second e = let r = ranged 0 7 0 0 first second e in (omega (arith, r), omega (arith, r))
-in-range Form.Wait first second e = let r = ranged 1 600 0 0 first second e in (omega (arith, r), omega (arith, r))
-in-range Form.Stop first second e = let r = ranged 0 0 0 0 first second e in (omega (arith, r), omega (arith, r))
-in-range Form.Clear first second e = let r = ranged 0 0 0 0 first second e in (omega (arith, r), omega (arith, r))
-
--- So the command that is made of them has them as its parts, and is judged by them.
-pub in-range-parts : (form : Form) (first second : ℕ) → firstBad (rowOf form) first second ≡ 0
-    → partsOf (kindOf form first second) ≡ partsWith form first second
-in-range-parts form first second e = parts-kind form first second (in-range form first second e)
-
-pub in-range-judge : (form : Form) (flag : Bool) (first second : ℕ) → firstBad (rowOf form) first second ≡ 0
-    → judgeCode (commandWith flag (kindOf form first second)) ≡ firstOf (rowChecks (rowOf form) flag first second)
-unfolding judgeCode
-in-range-judge form flag first second e =
-    ap (λ (parts : Parts). firstOf (rowChecks (rowOf (parts .form)) flag (parts .first) (parts .second))) (in-range-parts form first second e)
-
 -- The first word tells the form and the flag.
 head-half : (opcode : ℕ) (flag : Bool) → (opcode * 2 + bit flag) / 2 ≡ opcode
 head-half opcode false = omega arith
@@ -187,8 +127,8 @@ module _ (c : Command) (allowed : judgeCode c ≡ 0) where
   abbrev parts : Parts
   parts = partsOf (c .kind)
 
-  in-limits : firstBadIn c ≡ 0
-  in-limits = eqb-true (firstBadIn c) 0 (not-false (eqb (firstBadIn c) 0) (judge-order c .accepted .0 allowed .0))
+  in-limits : badIn parts ≡ 0
+  in-limits = eqb-true (badIn parts) 0 (not-false (eqb (badIn parts) 0) (judge-order c .accepted .0 allowed .0))
 
   stored-made : storedAs c ≡ commandWith (c .flag) (kindOf (parts .form) (parts .first) (parts .second))
   stored-made =

@@ -21,6 +21,7 @@ use Rattle.wire.specs.Codes.{Check, _when_, firstOf}
 use Rattle.wire.specs.Table.{rowOf}
 use Rattle.wire.specs.Kind.{kindOf}
 use Rattle.wire.specs.Judge.{toldOf, toldJudged, firstBad, flagChecks, rowChecks}
+use Rattle.wire.proofs.Ranges.{in-range-judge}
 use Rattle.store.specs.declared.Store.{Store}
 use Rattle.store.specs.declared.spans.Span.{Span}
 use Rattle.store.specs.declared.tally.Tally.{Tally}
@@ -33,7 +34,6 @@ use Rattle.store.specs.SpanSteps.{noSpan, lengthOf, toldSpan, spansTo, T
 use Rattle.store.specs.GroupSteps.{Clear, Due}
 use Rattle.store.specs.Sound.{allBelow, allOf, entryHolds, macroHolds, poolHolds, runningHolds, storeSound}
 use Rattle.store.specs.TallySteps.{storeOf, spanBy, formHolds, macroBy}
-use Rattle.store.proofs.Entries.{in-range-judge}
 use Rattle.store.proofs.Walk.{entries-at}
 use Rattle.store.proofs.SpanTable.{told-length, told-most}
 use Rattle.store.proofs.Sound.{below-of, closed-of, sound-of, mark-small}

@@ -8,7 +8,7 @@ use lib.ListN.{length, drop, length-append}
 use lib.Seq.{drop-at}
 use lib.Dec.{eqb}
 use Rattle.wire.specs.declared.kinds.Command.{Command}
-use Rattle.wire.specs.Judge.{toldWith, judgeCode}
+use Rattle.wire.specs.Judge.{plain, judgeCode}
 use Rattle.wire.specs.Kind.{partsOf}
 use Rattle.wire.specs.Read.{Answer, said, readCode, readOf}
 use Rattle.wire.specs.Write.{commandBytes, listBytes}
@@ -43,7 +43,7 @@ module _ (c : Command) (cs : List Command) where
       ∙ ap (λ s. listBytes (c ∷ cs) ∷ rests s) (drop-at (commandBytes c) (listBytes cs) (length (commandBytes c)) refl)
 
   module _ (held : Held c) (allowed : judgeCode c ≡ 0) where
-    pub reads-listed : readOf (listBytes (c ∷ cs)) ≡ record { told = toldWith 0 0; taken = c ∷ [] }
+    pub reads-listed : readOf (listBytes (c ∷ cs)) ≡ record { told = plain 0; taken = c ∷ [] }
     unfolding listBytes
     reads-listed = read-back c (listBytes cs) held allowed
 

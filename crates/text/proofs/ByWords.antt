@@ -10,15 +10,15 @@ use borrow.Author.Tests.{eq-eqb, ne-eqb, eqb-true, eqb-false}
 use Rattle.wire.specs.declared.table.Form.{Form}
 use Rattle.wire.specs.Codes.{_when_, firstOf as firstDue}
 use Rattle.wire.specs.Table.{rowOf, argumentsOf}
-use Rattle.wire.specs.Kind.{kindOf}
-use Rattle.wire.specs.Judge.{toldWith, firstBad, rowChecks, parOf}
+use Rattle.wire.specs.Kind.{partsWith, kindOf}
+use Rattle.wire.specs.Judge.{toldFor, partChecks}
 use Rattle.wire.specs.Read.{Answer}
 use Rattle.text.specs.declared.names.Named.{Named}
 use Rattle.text.specs.declared.number.Number.{Number}
 use Rattle.text.specs.Split.{space, wordsOf}
 use Rattle.text.specs.Number.{isMalformed, valueOf}
 use Rattle.text.specs.Names.{formNamed}
-use Rattle.text.specs.Line.{firstOf, secondOf, firstIn, secondIn, lineChecks, formIn, commandIn, badIn, typedAs, lineOf}
+use Rattle.text.specs.Line.{firstOf, secondOf, firstIn, secondIn, lineChecks, partsIn, formIn, commandIn, typedAs, lineOf}
 use Rattle.text.specs.Steps.{countOf, runOf, frontOf, behindOf, refused, readLine, knownLine, namedLine, typedLine, lineBy}
 use Rattle.text.proofs.Splitting.{words-next, words-count}
 
@@ -68,12 +68,11 @@ count-words s n = go (eqb (countOf space s) n) refl
 module _ (form : Form) (flag : Bool) where
   abbrev answered : Bool → Number → Number → Answer
   answered right x y =
-      let first = valueOf x in
-      let second = valueOf y in
-      let code = firstDue (32 when not right ∷ 31 when (isMalformed x || isMalformed y) ∷ rowChecks (rowOf form) flag first second) in
+      let parts = partsWith form (valueOf x) (valueOf y) in
+      let code = firstDue (32 when not right ∷ 31 when (isMalformed x || isMalformed y) ∷ partChecks flag parts) in
       record {
-        told = toldWith code (parOf code (firstBad (rowOf form) first second));
-        taken = cond (eqb code 0) (record { flag = flag; kind = kindOf form first second } ∷ []) [];
+        told = toldFor code parts;
+        taken = cond (eqb code 0) (record { flag = flag; kind = kindOf form (parts .first) (parts .second) } ∷ []) [];
       }
 
   branches : (right : Bool) (x y : Number) → cond right (readLine form flag x y) (refused 32) ≡ answered right x y
@@ -97,7 +96,7 @@ abbrev answerFor : Named → Bool → List (List ℕ) → Answer
 answerFor named flag words =
     let code = firstDue (lineChecks named flag words) in
     record {
-      told = toldWith code (parOf code (badIn (formIn named) words));
+      told = toldFor code (partsIn (formIn named) words);
       taken = cond (eqb code 0) (commandIn (formIn named) flag words ∷ []) [];
     }
 

@@ -22,7 +22,7 @@ pub record Speaks (fs : List Finding) (found : Finding) : Type 0 where
   pub first : SpeaksAt fs place
   pub is : found ≡ getD fs place nothing
 
--- What is found is what the first finds that finds something, with its code, parameter and line; and it is nothing exactly where none does.
+-- What is found is what the first finds that finds something, with all that it tells and its line; and it is nothing exactly where none does.
 pub record FindsFirst (fs : List Finding) (found : Finding) : Type 0 where
   pub placed : (k : ℕ) → SpeaksAt fs k → found ≡ getD fs k nothing
   pub spoken : found .told .code ≢ 0 → Speaks fs found

@@ -1,8 +1,9 @@
--- Laws of typed text, in three groups: what a reader of this crate wants to know (the readings by example, the order of codes and findings, what the
--- calls answer together, which lists the lister takes, that a goal said in text is that number, that an assembled list passes 1 to 10, that results
--- are unique), the laws behind those, and the laws behind single functions.
+-- Laws of typed text, in three groups: what a reader of this crate wants to know (the readings by example, the order of codes and findings, what is
+-- said of an argument out of range, what the calls answer together, which lists the lister takes, that a goal said in text is that number, that an
+-- assembled list passes 1 to 10, that results are unique), the laws behind those, and the laws behind single functions.
 mod Examples
 pub mod LineOrder
+pub mod Parameters
 pub mod FirstFinding
 pub mod Calls
 pub mod Takes

@@ -17,7 +17,7 @@ use Rattle.wire.specs.declared.kinds.Kind.{Kind}
 use Rattle.wire.specs.declared.judging.Refusal.{Refusal}
 use Rattle.wire.specs.declared.judging.Told.{Told}
 use Rattle.wire.specs.Kind.{kindOf}
-use Rattle.wire.specs.Judge.{toldWith, toldOf, judgedBy}
+use Rattle.wire.specs.Judge.{plain, toldOf, judgedBy}
 use Rattle.wire.specs.Read.{Answer}
 use Rattle.wire.proofs.Answers.{refusal-code}
 use Rattle.text.specs.declared.names.Named.{Named}
@@ -94,10 +94,10 @@ module _ (form : Form) (flag : Bool) (first second : ℕ) (row : Row) (is-row : 
       let late : eqb (judgedBy (rowOf form) flag first second .code) 0 ≡ false = rw (ap (λ (t : Told). t .code) told) at (refusal-code r) in
       rw (told, late)
 
-  pub then-allowed : (kind : Kind) → kind ≡ kindOf form first second → toldWith 0 0 ≡ judgedBy row flag first second
-      → record { told = toldWith 0 0; taken = record { flag = flag; kind = kind } ∷ [] } ≡ judgedLine form flag first second
+  pub then-allowed : (kind : Kind) → kind ≡ kindOf form first second → plain 0 ≡ judgedBy row flag first second
+      → record { told = plain 0; taken = record { flag = flag; kind = kind } ∷ [] } ≡ judgedLine form flag first second
   then-allowed kind made e =
-      let told : toldWith 0 0 ≡ judgedBy (rowOf form) flag first second = rw is-row at e in
+      let told : plain 0 ≡ judgedBy (rowOf form) flag first second = rw is-row at e in
       rw made
       (ap
       (λ (t : Told). record { told = t; taken = cond (eqb (t .code) 0) (record { flag = flag; kind = kindOf form first second } ∷ []) [] })
@@ -171,12 +171,12 @@ by-name flag body part n is-part is = ap (λ m. namedLine m flag body) (is ∙ a
 
 -- A line's four ends.
 module _ (s : List ℕ) where
-  pub empty-line : length s ≡ 0 → record { told = toldWith 0 0; taken = [] } ≡ lineBy s
+  pub empty-line : length s ≡ 0 → record { told = plain 0; taken = [] } ≡ lineBy s
   unfolding lineBy
   empty-line h = rw (eq-eqb (length s) 0 h)
 
   module _ (some : (length s ≡ 0 → ⊥)) where
-    pub comment-line : getD s 0 0 ≡ 35 → record { told = toldWith 0 0; taken = [] } ≡ lineBy s
+    pub comment-line : getD s 0 0 ≡ 35 → record { told = plain 0; taken = [] } ≡ lineBy s
     unfolding lineBy
     comment-line h = rw (ne-eqb (length s) 0 some, eq-eqb (getD s 0 0) 35 h)
 

@@ -18,7 +18,7 @@ use Rattle.wire.specs.declared.judging.Told.{Told}
 use Rattle.wire.specs.declared.decoding.Reading.{Reading}
 use Rattle.wire.specs.Codes.{_when_, firstOf}
 use Rattle.wire.specs.Table.{ruleOf}
-use Rattle.wire.specs.Read.{Answer, answerOf, answerFor, opcodeOf, flagOf, lengthOf, thirdWord, decodeChecks, readChecks, readCode, readOf, said, spanOf}
+use Rattle.wire.specs.Read.{Answer, answerOf, answerFor, opcodeOf, flagOf, lengthOf, thirdWord, decodeChecks, readChecks, readCode, readOf, saidParts, said, spanOf}
 use Rattle.wire.specs.Write.{commandBytes}
 use Rattle.wire.proofs.Answers.{refusal-code, reaches}
 use Rattle.wire.proofs.FirstOf.{Coded, first-append}
@@ -64,7 +64,7 @@ module _ (s : List ℕ) where
   unfolding readCode
   list-code = first-append (readChecks s) (33 when not (canSay (said s)) ∷ []) (coded-read s)
 
-  offered : (code : ℕ) → listCode ≡ code → offeredAt s ≡ answerFor code (said s)
+  offered : (code : ℕ) → listCode ≡ code → offeredAt s ≡ answerFor code (saidParts s) (said s)
   unfolding offeredAt listTold
   offered code is = rw is
 
@@ -95,7 +95,7 @@ module _ (s : List ℕ) where
         ∙ ap (λ t. cond (not t) 33 0) (ap canSay (sym is-said) ∙ sym is)
 
     pub offer-sayable : true ≡ canSay c → offerOf (Offer.Sayable c) ≡ offeredAt s
-    offer-sayable is = ap (λ k. answerFor 0 k) is-said ∙ sym (offered 0 (goal-code true is))
+    offer-sayable is = ap (answerFor 0 (saidParts s)) is-said ∙ sym (offered 0 (goal-code true is))
 
     pub offer-unsayable : false ≡ canSay c → offerOf (Offer.Bad Fault.Unsayable) ≡ offeredAt s
     offer-unsayable is = sym (offered 33 (goal-code false is))

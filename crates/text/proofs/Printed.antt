@@ -1,5 +1,5 @@
 -- What the lister prints is read back: a line as its command, a text as its list.
-use Prim.Native.Nat.{ℕ, suc, _+_, _-_, _/_, _%_, _≤_, _<_}
+use Prim.Native.Nat.{ℕ, suc, _+_, _/_, _%_, _≤_, _<_}
 use mathlib.Core.Path.{_≡_, refl, sym, ap, _∙_}
 use mathlib.Core.List.{List, [], _∷_, _++_, append-nil}
 use mathlib.Core.Bool.{Bool, true, false, cond, _&&_}
@@ -13,7 +13,7 @@ use Rattle.wire.specs.declared.table.Form.{Form}
 use Rattle.wire.specs.declared.table.Layout.{Layout}
 use Rattle.wire.specs.declared.kinds.Command.{Command}
 use Rattle.wire.specs.Kind.{partsOf}
-use Rattle.wire.specs.Judge.{toldWith, judgedBy, judgeCode}
+use Rattle.wire.specs.Judge.{plain, judgedBy, judgeCode}
 use Rattle.wire.specs.Read.{Answer}
 use Rattle.wire.proofs.Layouts.{Within}
 use Rattle.wire.proofs.RoundTrip.{Held, held-within, held-made}
@@ -255,13 +255,13 @@ module _ (c : Command) (held : Held c) (fine : judgeCode c ≡ 0) (says : CanSay
   abbrev two : ℕ
   two = partsOf (c .kind) .second
 
-  judged-as : judgedLine form (c .flag) one two ≡ record { told = toldWith 0 0; taken = c ∷ [] }
+  judged-as : judgedLine form (c .flag) one two ≡ record { told = plain 0; taken = c ∷ [] }
   unfolding judgeCode
   judged-as =
       let code : judgedBy (rowOf form) (c .flag) one two .code ≡ 0 = fine in
       rw (code, held-made (c .kind) held)
 
-  by-flag : (flag : Bool) → c .flag ≡ flag → lineOf (flagged flag (bodyText c)) ≡ record { told = toldWith 0 0; taken = c ∷ [] }
+  by-flag : (flag : Bool) → c .flag ≡ flag → lineOf (flagged flag (bodyText c)) ≡ record { told = plain 0; taken = c ∷ [] }
   by-flag true is =
       sym (line-by (43 ∷ bodyText c))
       ∙ plus (bodyText c)
@@ -273,7 +273,7 @@ module _ (c : Command) (held : Held c) (fine : judgeCode c ≡ 0) (says : CanSay
       ∙ ap (λ b. judgedLine form b one two) (sym is)
       ∙ judged-as
 
-  pub line-back : lineOf (lineText c) ≡ record { told = toldWith 0 0; taken = c ∷ [] }
+  pub line-back : lineOf (lineText c) ≡ record { told = plain 0; taken = c ∷ [] }
   unfolding lineText
   line-back = by-flag (c .flag) refl
 

@@ -1,20 +1,22 @@
 -- Which commands the text can say; and that it can say every command that a line says.
 use Prim.Native.Nat.{ℕ, _≤_, _<_, _^_}
 use mathlib.Core.Path.{_≡_, refl, sym, ap, subst, _∙_}
+use mathlib.Core.Logic.{_⊎_, inl, inr}
 use mathlib.Core.List.{List, [], _∷_, _++_}
-use mathlib.Core.Bool.{Bool, true, false, cond, _||_, _&&_, true≢false}
+use mathlib.Core.Bool.{Bool, true, false, cond, true≢false}
 use native.Mathlib.Omega.{arith}
-use lib.Dec.{eqb, leb}
+use lib.Dec.{eqb}
 use lib.Ieee.{binary32, ofBits}
 use lib.Ieee.Exact.{HasValue}
-use borrow.Author.Tests.{eqb-true, leb-true}
+use borrow.Author.Tests.{eqb-true}
 use Rattle.wire.specs.declared.table.Form.{Form}
 use Rattle.wire.specs.declared.table.Layout.{Layout}
 use Rattle.wire.specs.declared.kinds.Command.{Command}
 use Rattle.wire.specs.declared.kinds.Parts.{Parts}
 use Rattle.wire.specs.Table.{rowOf}
-use Rattle.wire.specs.Kind.{partsOf, kindOf}
-use Rattle.wire.specs.Judge.{inLimits, firstBad, judgedBy}
+use Rattle.wire.specs.Kind.{partsWith, partsOf, kindOf}
+use Rattle.wire.specs.Judge.{badIn, judgedBy}
+use Rattle.wire.proofs.Goals.{goalAllowed, goal-allowed}
 use Rattle.text.specs.declared.goal.Quarters.{Quarters}
 use Rattle.text.specs.declared.number.Number.{Number}
 use Rattle.text.specs.Number.{quartersOf}
@@ -24,7 +26,7 @@ use Rattle.text.specs.Assemble.{commandsIn}
 use Rattle.text.specs.Steps.{judgedLine}
 use Rattle.text.proofs.Lines.{quarters-small}
 use Rattle.text.proofs.Branches.{line-any}
-use Rattle.text.proofs.Allowed.{both-in, in-range, typed-parts}
+use Rattle.text.proofs.Allowed.{typed-in-range, typed-parts}
 use Rattle.text.proofs.Goals.{goal-exact, bits-small, there-and-back}
 
 -- A goal that the text can say.
@@ -65,20 +67,27 @@ no-minus q small e =
     let has : HasValue (ofBits binary32 0x80000000) false q 4 = subst (λ b. HasValue (ofBits binary32 b) false q 4) e (goal-exact q small) in
     true≢false (has .0)
 
--- So one within the limits can be said.
-goal-says : (bits : ℕ) → Goal bits → inLimits Layout.Singles 0 0x447fffff bits ≡ true → Says bits
-goal-says bits goal fits = go (eqb bits 0x80000000) (leb 0 bits) (leb bits 0x447fffff) refl refl fits
+-- So one that is in range can be said.
+goal-says : (bits : ℕ) → Goal bits → goalAllowed bits ≡ true → Says bits
+goal-says bits goal allowed = go (goal-allowed bits .0 allowed)
   where
-    go : (minus any low : Bool) → eqb bits 0x80000000 ≡ minus → leb bits 0x447fffff ≡ low → (minus || (any && low)) ≡ true → Says bits
-    go true any low is low-is fits = absurd (no-minus (goal .quarters) (goal .small) (sym (goal .is) ∙ eqb-true bits 0x80000000 is))
-    go false true true is low-is fits =
-        let below : goalBits (goal .quarters) ≤ 0x447fffff = subst (λ b. b ≤ 0x447fffff) (goal .is) (leb-true bits 0x447fffff low-is) in
+    go : (bits ≤ 0x447fffff) ⊎ (bits ≡ 0x80000000) → Says bits
+    go (inl low) =
+        let below : goalBits (goal .quarters) ≤ 0x447fffff = subst (λ b. b ≤ 0x447fffff) (goal .is) low in
         record {
           quarters = goal .quarters;
           said = ap quartersIn (goal .is) ∙ there-and-back (goal .quarters) (bits-small (goal .quarters) (goal .small) below);
         }
-    go false true false is low-is fits = absurd (true≢false (sym fits))
-    go false false low is low-is fits = absurd (true≢false (sym fits))
+    go (inr minus) = absurd (no-minus (goal .quarters) (goal .small) (sym (goal .is) ∙ minus))
+
+-- And so can two of which neither is bad.
+both-say : (first second : ℕ) → Goal first → Goal second → badIn (partsWith Form.TrkGoal first second) ≡ 0 → Says first × Says second
+both-say first second one two fine = go (goalAllowed first) (goalAllowed second) refl refl fine
+  where
+    go : (a b : Bool) → goalAllowed first ≡ a → goalAllowed second ≡ b → _≡_ {A = ℕ} (cond a (cond b 0 2) 1) 0 → Says first × Says second
+    go true true is at e = (goal-says first one is, goal-says second two at)
+    go true false is at e = absurd (omega arith)
+    go false b is at e = absurd (omega arith)
 
 -- The numbers of a line, by its layout.
 abbrev Typed : Layout → ℕ → ℕ → Type 0
@@ -105,7 +114,7 @@ both-typed Layout.Halves s t first second one two = tt
 both-typed Layout.Singles s t first second one two = (goal-typed s first one, goal-typed t second two)
 
 -- Each branch of the code: the command that it gives, if any, can be said.
-numbers-say : (form : Form) (first second : ℕ) → Typed (rowOf form .layout) first second → firstBad (rowOf form) first second ≡ 0
+numbers-say : (form : Form) (first second : ℕ) → Typed (rowOf form .layout) first second → badIn (partsWith form first second) ≡ 0
     → Sayable (rowOf form .layout) first second
 numbers-say Form.ImgPwr first second typed fine = tt
 numbers-say Form.ImgRegion first second typed fine = tt
@@ -113,9 +122,7 @@ numbers-say Form.ImgTrack first second typed fine = tt
 numbers-say Form.TrkAlg first second typed fine = tt
 numbers-say Form.TrkLoop first second typed fine = tt
 numbers-say Form.ImgImage first second typed fine = tt
-numbers-say Form.TrkGoal first second typed fine =
-    let fit = both-in (rowOf Form.TrkGoal) first second fine in
-    (goal-says first (typed .0) (fit .0), goal-says second (typed .1) (fit .1))
+numbers-say Form.TrkGoal first second typed fine = both-say first second (typed .0) (typed .1) fine
 numbers-say Form.TlmFlush first second typed fine = tt
 numbers-say Form.FlushAuto first second typed fine = tt
 numbers-say Form.Open first second typed fine = tt
@@ -133,7 +140,7 @@ judged-says form flag first second typed = go (eqb (judgedBy (rowOf form) flag f
     go true is =
         let code = eqb-true (judgedBy (rowOf form) flag first second .code) 0 is in (
           subst (λ (p : Parts). Sayable (rowOf (p .form) .layout) (p .first) (p .second)) (sym (typed-parts form flag first second code))
-              (numbers-say form first second typed (in-range form flag first second code)),
+              (numbers-say form first second typed (typed-in-range form flag first second code)),
           tt,
         )
     go false is = tt

@@ -22,7 +22,7 @@ use Rattle.text.specs.Line.{answerLine}
 use Rattle.text.specs.Shown.{lineShown, lineStart}
 use Rattle.text.proofs.Found.{fault-code}
 
--- The fault with a code and a parameter.
+-- The fault of which this is told.
 abbrev faultOf : Told → Fault
 faultOf t =
     cond (eqb (t .code) 30) Fault.UnknownName
@@ -38,7 +38,7 @@ wire-back Refusal.SumDiffers = refl
 wire-back Refusal.UnknownOpcode = refl
 wire-back Refusal.WrongLength = refl
 wire-back Refusal.PadNotZero = refl
-wire-back (Refusal.OutOfRange par) = refl
+wire-back (Refusal.OutOfRange stray) = refl
 wire-back Refusal.FlagForbidden = refl
 wire-back Refusal.FlagMissing = refl
 wire-back Refusal.NoRoom = refl
@@ -50,7 +50,7 @@ fault-back Fault.Malformed = refl
 fault-back Fault.Unsayable = refl
 fault-back (Fault.Wire refusal) = wire-back refusal ∙ ap Fault.Wire (refusal-back refusal)
 
--- Two faults with the same code and parameter are the same.
+-- Two faults of which the same is told, code, parameter, value and limits, are the same.
 pub one-fault : (a b : Fault) → toldFault a ≡ toldFault b → a ≡ b
 one-fault = one-to-one toldFault faultOf fault-back
 
@@ -70,12 +70,12 @@ not-whole (Fault.Wire refusal) = of-wire refusal
     of-wire Refusal.UnknownOpcode = refl
     of-wire Refusal.WrongLength = refl
     of-wire Refusal.PadNotZero = refl
-    of-wire (Refusal.OutOfRange par) = refl
+    of-wire (Refusal.OutOfRange stray) = refl
     of-wire Refusal.FlagForbidden = refl
     of-wire Refusal.FlagMissing = refl
     of-wire Refusal.NoRoom = refl
 
--- Two answers of `assemble`, `list_text` or `judge_text` with the same code, parameter, number and count of bytes are the same.
+-- Two answers of `assemble`, `list_text` or `judge_text` that tell the same, with the same number and count of bytes, are the same.
 pub one-translated : (a b : Translated) → translatedOf a ≡ translatedOf b → a ≡ b
 one-translated = one-to-one translatedOf translation back
   where
@@ -89,7 +89,7 @@ one-translated = one-to-one translatedOf translation back
     back Translated.TooLong = refl
     back (Translated.Bad number fault) = rw (fault-code fault, not-whole fault, fault-back fault)
 
--- Two answers of `line_of` with the same code, parameter and command are the same.
+-- Two answers of `line_of` that tell the same, with the same command, are the same.
 pub one-line : (a b : Line) → answerLine a ≡ answerLine b → a ≡ b
 one-line = one-to-one answerLine lineFor back
   where

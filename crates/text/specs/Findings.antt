@@ -6,34 +6,34 @@ use lib.Dec.{eqb}
 use Rattle.wire.specs.declared.judging.Refusal.{Refusal}
 use Rattle.wire.specs.declared.judging.Told.{Told}
 use Rattle.wire.specs.Codes.{Check}
-use Rattle.wire.specs.Judge.{toldWith, toldOf}
+use Rattle.wire.specs.Judge.{plain, toldOf}
 use Rattle.text.specs.declared.findings.Fault.{Fault}
 use Rattle.text.specs.declared.findings.Finding.{Finding}
 use Rattle.text.specs.declared.findings.Translated.{Translated}
 
--- A code with its parameter, and the number of the line or command that it is of.
+-- What is told, and the number of the line or command that it is of.
 abbrev pub finding : Told → ℕ → Finding
 finding told number = record { told = told; number = number }
 
 -- Nothing was found.
 abbrev pub nothing : Finding
-nothing = finding (toldWith 0 0) 0
+nothing = finding (plain 0) 0
 
 -- "codes 20, 21, 24, 27 name no line": a check of the whole.
 abbrev pub whole : Check → Finding
-whole check = cond (check .due) (finding (toldWith (check .code) 0) 0) nothing
+whole check = cond (check .due) (finding (plain (check .code)) 0) nothing
 
 -- The first that finds something.
 unfoldable pub firstFound : List Finding → Finding
 firstFound [] = nothing
 firstFound (f ∷ fs) = cond (eqb (f .told .code) 0) (firstFound fs) f
 
--- 02, Q-1: the number and the parameter of each fault of a line, and of a command that is to be listed.
+-- 02, Q-1: what is told of each fault of a line, and of a command that is to be listed.
 abbrev pub toldFault : Fault → Told
-toldFault Fault.UnknownName = toldWith 30 0
-toldFault Fault.WrongCount = toldWith 32 0
-toldFault Fault.Malformed = toldWith 31 0
-toldFault Fault.Unsayable = toldWith 33 0
+toldFault Fault.UnknownName = plain 30
+toldFault Fault.WrongCount = plain 32
+toldFault Fault.Malformed = plain 31
+toldFault Fault.Unsayable = plain 33
 toldFault (Fault.Wire refusal) = toldOf refusal
 
 -- Too little room, which is of no line.
@@ -55,5 +55,5 @@ outcomeFor found bytes = outcome found (cond (eqb (found .told .code) 0) bytes 0
 -- What the code answers.
 abbrev pub translatedOf : Translated → Outcome
 translatedOf (Translated.Done bytes) = outcome nothing bytes
-translatedOf Translated.TooLong = outcome (finding (toldWith 20 0) 0) 0
+translatedOf Translated.TooLong = outcome (finding (plain 20) 0) 0
 translatedOf (Translated.Bad number fault) = outcome (finding (toldFault fault) number) 0

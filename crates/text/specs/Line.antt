@@ -8,10 +8,11 @@ use Rattle.words.specs.BigEndian.{byteAt}
 use Rattle.wire.specs.declared.table.Form.{Form}
 use Rattle.wire.specs.declared.table.Layout.{Layout}
 use Rattle.wire.specs.declared.kinds.Command.{Command}
+use Rattle.wire.specs.declared.kinds.Parts.{Parts}
 use Rattle.wire.specs.Codes.{Check, _when_, firstOf as firstDue}
 use Rattle.wire.specs.Table.{rowOf, argumentsOf}
-use Rattle.wire.specs.Kind.{kindOf}
-use Rattle.wire.specs.Judge.{toldWith, firstBad, rowChecks, parOf}
+use Rattle.wire.specs.Kind.{partsWith, kindOf}
+use Rattle.wire.specs.Judge.{plain, toldFor, partChecks}
 use Rattle.wire.specs.Read.{Answer}
 use Rattle.text.specs.declared.names.Named.{Named}
 use Rattle.text.specs.declared.number.Number.{Number}
@@ -69,12 +70,16 @@ firstIn form words = firstOf (rowOf form .layout) (argumentIn words 1)
 abbrev pub secondIn : Form → List (List ℕ) → Number
 secondIn form words = secondOf (rowOf form .layout) (argumentIn words 2)
 
--- Rows 32 and 31 of a line whose name is known; then rows 8 to 10, on the numbers as they were typed.
+-- The form and the numbers as they were typed, not cut to the width of their fields.
+abbrev pub partsIn : Form → List (List ℕ) → Parts
+partsIn form words = partsWith form (valueOf (firstIn form words)) (valueOf (secondIn form words))
+
+-- Rows 32 and 31 of a line whose name is known; then rows 8 to 10, on those numbers.
 abbrev pub formChecks : Form → Bool → List (List ℕ) → List Check
 formChecks form flag words =
     32 when not (eqb (length words) (argumentsOf (rowOf form .layout) + 1))
     ∷ 31 when (isMalformed (firstIn form words) || isMalformed (secondIn form words))
-    ∷ rowChecks (rowOf form) flag (valueOf (firstIn form words)) (valueOf (secondIn form words))
+    ∷ partChecks flag (partsIn form words)
 
 -- Row 30 before them: the name is not in the table.
 abbrev pub lineChecks : Named → Bool → List (List ℕ) → List Check
@@ -89,28 +94,25 @@ formIn Named.Unknown = Form.TlmFlush
 -- The command that the words of a line say.
 abbrev pub commandIn : Form → Bool → List (List ℕ) → Command
 commandIn form flag words =
-    record { flag = flag; kind = kindOf form (valueOf (firstIn form words)) (valueOf (secondIn form words)) }
+    let parts = partsIn form words in
+    record { flag = flag; kind = kindOf form (parts .first) (parts .second) }
 
--- "the first bad one" of the numbers as they were typed.
-abbrev pub badIn : Form → List (List ℕ) → ℕ
-badIn form words = firstBad (rowOf form) (valueOf (firstIn form words)) (valueOf (secondIn form words))
-
--- A line by its flag and words: the first row that is due, with its parameter; the command where none is.
+-- A line by its flag and words: the first row that is due, with what was wrong with the number; the command where none is.
 unfoldable pub typedAs : Bool → List (List ℕ) → Answer
 typedAs flag words =
     let named = formNamed (nameIn words) in
     let code = firstDue (lineChecks named flag words) in
     record {
-      told = toldWith code (parOf code (badIn (formIn named) words));
+      told = toldFor code (partsIn (formIn named) words);
       taken = cond (eqb code 0) (commandIn (formIn named) flag words ∷ []) [];
     }
 
--- What a line says: a code with its parameter, and the command where the code is 0 and the line carries one.
+-- What a line says: what is told of it, and the command where the code is 0 and the line carries one.
 unfoldable pub lineOf : List ℕ → Answer
-lineOf line = cond (isBlank line) (record { told = toldWith 0 0; taken = [] }) (typedAs (flagIn line) (wordsOf (bodyIn line)))
+lineOf line = cond (isBlank line) (record { told = plain 0; taken = [] }) (typedAs (flagIn line) (wordsOf (bodyIn line)))
 
 -- What the code says of a line.
 abbrev pub answerLine : Line → Answer
-answerLine Line.Blank = record { told = toldWith 0 0; taken = [] }
-answerLine (Line.Typed command) = record { told = toldWith 0 0; taken = command ∷ [] }
+answerLine Line.Blank = record { told = plain 0; taken = [] }
+answerLine (Line.Typed command) = record { told = plain 0; taken = command ∷ [] }
 answerLine (Line.Bad fault) = record { told = toldFault fault; taken = [] }

@@ -7,7 +7,7 @@ use mathlib.Core.Bool.{Bool, true, false, cond}
 use lib.ListN.{length, take}
 use lib.Dec.{eqb}
 use Rattle.wire.specs.declared.kinds.Command.{Command}
-use Rattle.wire.specs.Judge.{toldWith}
+use Rattle.wire.specs.Judge.{plain}
 use Rattle.wire.specs.Read.{Answer, said}
 use Rattle.text.specs.declared.findings.Translated.{Translated}
 use Rattle.text.specs.declared.printing.Offer.{Offer}
@@ -26,7 +26,7 @@ endedLine c = lineText c ++ (lineFeed ∷ [])
 
 -- What the command at the front of a list comes to: its code and, where that is 0, itself.
 abbrev pub offerOf : Offer → Answer
-offerOf (Offer.Sayable c) = record { told = toldWith 0 0; taken = c ∷ [] }
+offerOf (Offer.Sayable c) = record { told = plain 0; taken = c ∷ [] }
 offerOf (Offer.Bad fault) = record { told = toldFault fault; taken = [] }
 
 unfoldable pub offeredAt : List ℕ → Answer

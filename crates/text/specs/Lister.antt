@@ -12,8 +12,8 @@ use Rattle.wire.specs.declared.judging.Told.{Told}
 use Rattle.wire.specs.Codes.{Check, _when_, firstOf}
 use Rattle.wire.specs.Table.{rowOf, nameOf}
 use Rattle.wire.specs.Kind.{partsOf}
-use Rattle.wire.specs.Judge.{toldWith, firstBadIn, parOf}
-use Rattle.wire.specs.Read.{readChecks, said}
+use Rattle.wire.specs.Judge.{toldFor}
+use Rattle.wire.specs.Read.{readChecks, saidParts, said}
 use Rattle.walk.specs.Walk.{rests}
 use Rattle.text.specs.declared.goal.Quarters.{Quarters}
 use Rattle.text.specs.declared.findings.Finding.{Finding}
@@ -87,9 +87,7 @@ abbrev pub listChecks : List ℕ → List Check
 listChecks s = readChecks s ++ (33 when not (canSay (said s)) ∷ [])
 
 unfoldable pub listTold : List ℕ → Told
-listTold s =
-    let code = firstOf (listChecks s) in
-    toldWith code (parOf code (firstBadIn (said s)))
+listTold s = toldFor (firstOf (listChecks s)) (saidParts s)
 
 -- What is found at each command, where the first of these has this number.
 unfoldable pub commandFindings : ℕ → List (List ℕ) → List Finding

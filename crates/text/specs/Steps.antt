@@ -10,7 +10,7 @@ use Rattle.wire.specs.declared.table.Form.{Form}
 use Rattle.wire.specs.declared.judging.Told.{Told}
 use Rattle.wire.specs.Table.{rowOf, argumentsOf}
 use Rattle.wire.specs.Kind.{kindOf}
-use Rattle.wire.specs.Judge.{toldWith, judgedBy}
+use Rattle.wire.specs.Judge.{plain, judgedBy}
 use Rattle.wire.specs.Read.{Answer}
 use Rattle.wire.specs.Write.{listBytes}
 use Rattle.text.specs.declared.names.Named.{Named}
@@ -57,7 +57,7 @@ abbrev pub guessOf : ℕ → ℕ
 guessOf bits = cond (ltb bits 0x3e800000) 0 ((bits % 8388608 + 8388608) / 2 ^ (148 - bits / 8388608))
 
 abbrev pub refused : ℕ → Answer
-refused code = record { told = toldWith code 0; taken = [] }
+refused code = record { told = plain code; taken = [] }
 
 -- Codes 8 to 10.
 abbrev pub judgedLine : Form → Bool → ℕ → ℕ → Answer
@@ -102,7 +102,7 @@ pub record Part : Type 0 where
   pub bytes : ℕ
 
 abbrev pub partOf : Step → Part
-partOf (Step.Gives bytes) = record { told = toldWith 0 0; bytes = bytes }
+partOf (Step.Gives bytes) = record { told = plain 0; bytes = bytes }
 partOf (Step.Bad fault) = record { told = toldFault fault; bytes = 0 }
 
 abbrev pub partFor : List ℕ → Part

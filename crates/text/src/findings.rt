@@ -1,6 +1,6 @@
 // What is found wrong with a line, a command to be listed, or a whole text or list, and the answers that carry it.
 ghost use mathlib.Core.Path.{_≡_};
-ghost use Rattle.wire.specs.Judge.{toldWith};
+ghost use Rattle.wire.specs.Judge.{plain};
 ghost use Rattle.text.specs.Findings.{toldFault, finding, noRoom, translatedOf};
 use wire::Refusal;
 use wire::Told;
@@ -14,7 +14,7 @@ pub enum Fault {
     Wire(Refusal),
 }
 
-// A code with its parameter, and the line or the command that it is of: 0 where it is of none.
+// A code with what was wrong with the number, and the line or the command that it is of: 0 where it is of none.
 pub struct Finding {
     pub told: Told,
     pub number: u32,
@@ -27,21 +27,15 @@ pub enum Translated {
     Bad(u32, Fault),
 }
 
-fn told_with(code: u8) -> Told
-    ensures { λ r. ⌜ r ≡ toldWith code 0 ⌝ }
-{
-    Told { code, par: 0 }
-}
-
-// The code and parameter of a fault.
+// The code of a fault, and what was wrong with the number.
 pub fn told_of(fault: Fault) -> Told
     ensures { λ r. ⌜ r ≡ toldFault fault ⌝ }
 {
     match fault {
-        Fault::UnknownName => told_with(30),
-        Fault::WrongCount => told_with(32),
-        Fault::Malformed => told_with(31),
-        Fault::Unsayable => told_with(33),
+        Fault::UnknownName => wire::plain(30),
+        Fault::WrongCount => wire::plain(32),
+        Fault::Malformed => wire::plain(31),
+        Fault::Unsayable => wire::plain(33),
         Fault::Wire(refusal) => wire::told_of(refusal),
     }
 }
@@ -52,13 +46,20 @@ fn finding_with(told: Told, number: u32) -> Finding
     Finding { told, number }
 }
 
+// What is found of the whole, and of no line or command.
+pub fn of_whole(code: u8) -> Finding
+    ensures { λ r. ⌜ r ≡ finding (plain code) 0 ⌝ }
+{
+    finding_with(wire::plain(code), 0)
+}
+
 // What was found: code 0 and number 0 where nothing was.
 pub fn finding_of(translated: Translated) -> Finding
     ensures { λ r. ⌜ r ≡ translatedOf translated .found ⌝ }
 {
     match translated {
-        Translated::Done(_) => finding_with(told_with(0), 0),
-        Translated::TooLong => finding_with(told_with(20), 0),
+        Translated::Done(_) => of_whole(0),
+        Translated::TooLong => of_whole(20),
         Translated::Bad(number, fault) => finding_with(told_of(fault), number),
     }
 }

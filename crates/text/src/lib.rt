@@ -17,6 +17,7 @@ pub use findings::Finding;
 pub use findings::Translated;
 pub use findings::bytes_of;
 pub use findings::finding_of;
+pub use findings::of_whole;
 pub use findings::told_of;
 pub use line::Line;
 pub use line::line_of;

@@ -6,6 +6,7 @@ use frame::Frame;
 use store::Group;
 use text::Translated;
 use wire::Command;
+use wire::Told;
 
 // The commands that are read or written in turn, and how far apart they lie.
 const COMMANDS: usize = 16;
@@ -29,6 +30,14 @@ fn with_command(sum: u64, command: Command) -> u64 {
     } else {
         second
     }
+}
+
+// A code, and what was wrong with the number.
+fn with_told(sum: u64, told: Told) -> u64 {
+    let stray = told.stray;
+    let code = mixed(mixed(sum, told.code as u64), stray.par as u64);
+    let value = mixed(code, stray.value as u64);
+    mixed(mixed(value, stray.low as u64), stray.high as u64)
 }
 
 // An entry by its two arguments, as a command with its flag, and by its code.
@@ -83,10 +92,7 @@ fn with_modes(sum: u64, f: Frame) -> u64 {
 fn read_one(sum: u64, bytes: &[u8]) -> u64 {
     match wire::read_command(bytes) {
         wire::Reading::Taken(command) => with_command(sum, command),
-        wire::Reading::Refused(refusal) => {
-            let told = wire::told_of(refusal);
-            mixed(mixed(sum, told.code as u64), told.par as u64)
-        }
+        wire::Reading::Refused(refusal) => with_told(sum, wire::told_of(refusal)),
     }
 }
 
@@ -137,10 +143,7 @@ fn commands_of(bytes: &[u8]) -> [Command; 16] {
 fn write_one(sum: u64, command: Command, room: &mut [u8]) -> u64 {
     match wire::write_command(command, room) {
         wire::Writing::Written(size) => mixed(sum, size as u64),
-        wire::Writing::Refused(refusal) => {
-            let told = wire::told_of(refusal);
-            mixed(mixed(sum, told.code as u64), told.par as u64)
-        }
+        wire::Writing::Refused(refusal) => with_told(sum, wire::told_of(refusal)),
     }
 }
 
@@ -338,8 +341,7 @@ pub extern "C" fn timing_seconds(list: &[u8], room: &mut [u8], seconds: u32, tim
 fn with_translated(sum: u64, translated: Translated) -> u64 {
     let found = text::finding_of(translated);
     let told = found.told;
-    let code = mixed(mixed(sum, told.code as u64), told.par as u64);
-    let place = mixed(code, found.number as u64);
+    let place = mixed(with_told(sum, told), found.number as u64);
     mixed(place, text::bytes_of(translated) as u64)
 }
 

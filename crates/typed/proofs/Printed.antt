@@ -15,6 +15,7 @@ use Rattle.wire.specs.Codes.{_when_}
 use Rattle.wire.specs.Read.{sumOf}
 use Rattle.wire.specs.Write.{commandBytes, listBytes}
 use Rattle.walk.specs.Walk.{rests}
+use Rattle.report.specs.Record.{recordLength, reportRoom}
 use Rattle.text.specs.declared.findings.Finding.{Finding}
 use Rattle.text.specs.Findings.{whole, firstFound}
 use Rattle.text.specs.Assemble.{lineNumbers, bytesIn, badLine, textFindings}
@@ -35,7 +36,7 @@ use Rattle.listing.proofs.RecordLine.{lineFor, record-line}
 use Rattle.listing.proofs.Outputs.{found-before}
 use Rattle.typed.specs.Printed.{found, printed}
 
--- Of a run on a fresh bench with the kit's list and a room of 8,192 bytes nothing is found but what is wrong with the text.
+-- Of a run on a fresh bench with the kit's list and the room that a report needs nothing is found but what is wrong with the text.
 kit-short : ltb 4096 (length kitBytes) ≡ false
 unfolding kitBytes listBytes commandBytes bytesOf sumOf
 kit-short = refl
@@ -44,7 +45,7 @@ or-false : (b : Bool) → (b || false) ≡ b
 or-false true = refl
 or-false false = refl
 
-fresh-found : (typed room : List ℕ) → length room ≡ 8192 → typedFound freshBench kitBytes typed room ≡ found typed
+fresh-found : (typed room : List ℕ) → length room ≡ reportRoom → typedFound freshBench kitBytes typed room ≡ found typed
 unfolding typedFound
 fresh-found typed room long =
     ap (λ first. firstFound (whole (20 when first) ∷ badLine typed ∷ whole (20 when ltb 4096 (length (bytesIn typed))) ∷ more))
@@ -52,16 +53,16 @@ fresh-found typed room long =
     ∙ found-before (textFindings typed) more (λ none. (room-fine, (sound, tt)))
   where
     more : List Finding
-    more = whole (21 when ltb (length room) 8192) ∷ whole (soundCheck freshBench) ∷ []
+    more = whole (21 when ltb (length room) reportRoom) ∷ whole (soundCheck freshBench) ∷ []
 
-    room-fine : whole (21 when ltb (length room) 8192) .told .code ≡ 0
-    room-fine = ap (λ n. whole (21 when ltb n 8192) .told .code) long
+    room-fine : whole (21 when ltb (length room) reportRoom) .told .code ≡ 0
+    room-fine = ap (λ n. whole (21 when ltb n reportRoom) .told .code) long
 
     sound : whole (soundCheck freshBench) .told .code ≡ 0
     sound = ap (λ b. whole (27 when not b) .told .code) (fresh-sound .sound)
 
 -- So what is printed is a refusal's line or the report's text, by what is found of that run.
-module _ (b : Bench) (kit typed room : List ℕ) (fresh : b ≡ freshBench) (own : kit ≡ kitBytes) (long : length room ≡ 8192) where
+module _ (b : Bench) (kit typed room : List ℕ) (fresh : b ≡ freshBench) (own : kit ≡ kitBytes) (long : length room ≡ reportRoom) where
   pub same-found : typedFound b kit typed room ≡ found typed
   same-found =
       ap (λ c. typedFound c kit typed room) fresh ∙ ap (λ k. typedFound freshBench k typed room) own ∙ fresh-found typed room long
@@ -85,7 +86,7 @@ module _ (b : Bench) (kit typed room : List ℕ) (r : TypedRan) (told : typedRan
   accepted : typedOf b kit typed room .found .told .code ≡ 0
   accepted = sym (ap (λ t. t .found .told .code) told) ∙ done
 
-  pub records-long : length (typedReport b kit typed) ≡ (r .kit + r .pupil) * 8
+  pub records-long : length (typedReport b kit typed) ≡ (r .kit + r .pupil) * recordLength
   records-long =
       omega (
         arith,
@@ -94,18 +95,18 @@ module _ (b : Bench) (kit typed room : List ℕ) (r : TypedRan) (told : typedRan
         ap (λ t. t .pupil) told ∙ pupil-count b kit typed room accepted,
       )
 
-  pub records-fit : length (typedReport b kit typed) ≤ 8192
+  pub records-fit : length (typedReport b kit typed) ≤ reportRoom
   records-fit =
       let p = passed b kit typed room accepted in
       both-fit b kit (lineNumbers typed) (bytesIn typed) (typed-even typed) (p .kit-short) (p .list-short)
 
-  pub records-front : take ((r .kit + r .pupil) * 8) (typedRoom b kit typed room) ≡ typedReport b kit typed
+  pub records-front : take ((r .kit + r .pupil) * recordLength) (typedRoom b kit typed room) ≡ typedReport b kit typed
   unfolding typedRoom typedOf
   records-front =
       let enough = passed b kit typed room accepted .enough in
       let stays = drop (length (typedReport b kit typed)) room in
       rw (accepted, with-room (typedReport b kit typed) room (omega (arith, enough, records-fit)))
-      (take-at (typedReport b kit typed) stays ((r .kit + r .pupil) * 8) records-long)
+      (take-at (typedReport b kit typed) stays ((r .kit + r .pupil) * recordLength) records-long)
 
 -- Under the header stand the kit's lines and then the pupil's: each has the verdict on its command, the kit's its number in the kit's own list, and
 -- the pupil's the number of the line that says it.

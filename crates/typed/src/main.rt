@@ -4,6 +4,7 @@ ghost use mathlib.Core.Path.{_≡_};
 ghost use Prim.Native.Nat.{_≤_};
 ghost use mathlib.Core.List.{_++_};
 ghost use lib.ListN.{length, drop};
+ghost use Rattle.report.specs.Record.{reportRoom};
 ghost use Rattle.listing.specs.Text.{textRoom};
 ghost use Rattle.typed.specs.Printed.{printed};
 use bench::Bench;
@@ -20,21 +21,21 @@ fn input_room() -> [u8; INPUT]
     [0; INPUT]
 }
 
-fn report_room() -> [u8; bench::ROOM]
-    ensures { λ r. ⌜ 8192 ≡ length r ⌝ }
+fn report_room() -> [u8; report::ROOM]
+    ensures { λ r. ⌜ reportRoom ≡ length r ⌝ }
 {
-    [0; bench::ROOM]
+    [0; report::ROOM]
 }
 
 fn text_room() -> [u8; listing::TEXT]
-    ensures { λ r. ⌜ textRoom 8192 ≡ length r ⌝ }
+    ensures { λ r. ⌜ textRoom reportRoom ≡ length r ⌝ }
 {
     [0; listing::TEXT]
 }
 
 // Puts what is to be printed for a typed list at the front of a room, and says how many bytes that is.
 fn put_printed(room: &mut [u8], typed: &[u8]) -> usize
-    requires { ⌜ textRoom 8192 ≤ length (now room) ⌝ }
+    requires { ⌜ textRoom reportRoom ≤ length (now room) ⌝ }
     ensures { λ r. ⌜ r ≡ length (printed (now (typed .entry))) ⌝ }
     ensures { λ r. ⌜ now (room .exit) ≡ printed (now (typed .entry)) ++ drop (length (printed (now (typed .entry)))) (now (room .entry)) ⌝ }
 {

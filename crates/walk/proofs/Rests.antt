@@ -120,9 +120,9 @@ few-in (suc n) s h =
 pub rests-few : (s : List ℕ) → 8 * length (rests s) ≤ length s + 7
 rests-few s = few-in (length s) s (omega arith)
 
--- So a list that is taken has at most 512 commands, and the records of two such lists have room in 8,192 bytes.
+-- So a list that is taken has at most 512 commands, and two such lists have at most 1,024 records.
 pub rests-512 : (s : List ℕ) → length s ≤ 4096 → length (rests s) ≤ 512
 rests-512 s h = omega (arith, rests-few s)
 
-pub records-fit : (kit pupil : List ℕ) → length kit ≤ 4096 → length pupil ≤ 4096 → 8 * (length (rests kit) + length (rests pupil)) ≤ 8192
-records-fit kit pupil hk hp = omega (arith, rests-512 kit hk, rests-512 pupil hp)
+pub records-1024 : (kit pupil : List ℕ) → length kit ≤ 4096 → length pupil ≤ 4096 → length (rests kit) + length (rests pupil) ≤ 1024
+records-1024 kit pupil hk hp = omega (arith, rests-512 kit hk, rests-512 pupil hp)

@@ -15,6 +15,7 @@ use Rattle.wire.specs.declared.table.Row.{Row}
 use Rattle.wire.specs.declared.table.Found.{Found}
 use Rattle.wire.specs.declared.kinds.Kind.{Kind}
 use Rattle.wire.specs.declared.kinds.Command.{Command}
+use Rattle.wire.specs.declared.kinds.Parts.{Parts}
 use Rattle.wire.specs.declared.judging.Refusal.{Refusal}
 use Rattle.wire.specs.declared.judging.Told.{Told}
 use Rattle.wire.specs.declared.judging.Judged.{Judged}
@@ -22,13 +23,12 @@ use Rattle.wire.specs.declared.decoding.Reading.{Reading}
 use Rattle.wire.specs.declared.decoding.Fields.{Fields}
 use Rattle.wire.specs.declared.decoding.Reach.{Reach}
 use Rattle.wire.proofs.Order.{due-none}
-use Rattle.wire.proofs.Goals.{judged-fields}
 use Rattle.wire.specs.Codes.{Check, _when_, firstOf}
 use Rattle.wire.specs.Table.{rowOf, ruleOf}
 use Rattle.wire.specs.Kind.{kindOf}
-use Rattle.wire.specs.Judge.{toldWith, toldOf, toldJudged, judgedBy, judgeCode, judged, firstBadIn, parOf}
-use Rattle.wire.specs.Read.{Answer, answerOf, answerFor, fieldsOf, commandAs, formChecks, decodeChecks, formIn, opcodeOf, lengthOf, sumOf}
-use Rattle.wire.specs.Read.{thirdWord, commandIn, reachCode, reachChecks, wholeChecks, readCode, readOf, spanOf}
+use Rattle.wire.specs.Judge.{plain, toldOf, toldJudged, judgedBy, partChecks, toldFor}
+use Rattle.wire.specs.Read.{Answer, answerOf, answerFor, fieldsOf, partsAs, commandAs, formChecks, decodeChecks, formIn, opcodeOf, lengthOf, sumOf}
+use Rattle.wire.specs.Read.{thirdWord, saidParts, said, reachCode, reachChecks, wholeChecks, readCode, readOf, spanOf}
 use Rattle.wire.specs.Steps.{decodedAs, decoded, readWhole, Reached, reachOf, reachAt}
 
 -- The answer of a refusal.
@@ -44,74 +44,81 @@ refusal-code Refusal.SumDiffers = refl
 refusal-code Refusal.UnknownOpcode = refl
 refusal-code Refusal.WrongLength = refl
 refusal-code Refusal.PadNotZero = refl
-refusal-code (Refusal.OutOfRange par) = refl
+refusal-code (Refusal.OutOfRange stray) = refl
 refusal-code Refusal.FlagForbidden = refl
 refusal-code Refusal.FlagMissing = refl
 refusal-code Refusal.NoRoom = refl
 
 -- What was told of a command is the answer to it: a refusal hands over nothing, and acceptance hands the command over.
-pub refused : (r : Refusal) (code : ℕ) (c : Command) → toldOf r ≡ toldWith code (parOf code (firstBadIn c)) → refusedBy (toldOf r) ≡ answerFor code c
-refused r code c e =
+pub refused : (r : Refusal) (code : ℕ) (parts : Parts) (c : Command) → toldOf r ≡ toldFor code parts
+    → refusedBy (toldOf r) ≡ answerFor code parts c
+refused r code parts c e =
     let other : eqb code 0 ≡ false = rw (ap (λ (t : Told). t .code) e) at (refusal-code r) in
     rw (e, other)
 
-pub allowed : (code : ℕ) (c : Command) → toldWith 0 0 ≡ toldWith code (parOf code (firstBadIn c))
-    → record { told = toldWith 0 0; taken = c ∷ [] } ≡ answerFor code c
-allowed code c e = rw (← ap (λ (t : Told). t .code) e)
+pub allowed : (code : ℕ) (parts : Parts) (c : Command) → plain 0 ≡ toldFor code parts
+    → record { told = plain 0; taken = c ∷ [] } ≡ answerFor code parts c
+allowed code parts c e = rw (← ap (λ (t : Told). t .code) e)
 
 -- Rows 7 to 10, from what the code holds: the row of the form, the fields by its layout, the judgement on them and the kind made of them.
 module _ (form : Form) (flag : Bool) (one two : ℕ) (row : Row) (fields : Fields)
     (is-row : row ≡ rowOf form) (are-fields : fields ≡ fieldsOf (row .layout) one two) where
+  abbrev parts : Parts
+  parts = partsAs form one two
+
+  abbrev code : ℕ
+  code = firstOf (partChecks flag parts)
+
   same-fields : fields ≡ fieldsOf (rowOf form .layout) one two
   same-fields = are-fields ∙ ap (λ (r : Row). fieldsOf (r .layout) one two) is-row
 
-  pub pad-refused : (fields .pad ≡ 0 → ⊥) → refusedBy (toldWith 7 0) ≡ decodedAs form flag one two
+  pub pad-refused : (fields .pad ≡ 0 → ⊥) → refusedBy (plain 7) ≡ decodedAs form flag one two
   unfolding decodedAs
   pad-refused h = rw (← same-fields) (simp (ne-eqb (fields .pad) 0 h))
 
-  pub pad-passed : fields .pad ≡ 0 → decodedAs form flag one two ≡ answerFor (judgeCode (commandAs form flag one two)) (commandAs form flag one two)
-  unfolding decodedAs judgeCode
+  pub pad-passed : fields .pad ≡ 0 → decodedAs form flag one two ≡ answerFor (firstOf (partChecks flag (partsAs form one two))) (partsAs form one two) (commandAs form flag one two)
+  unfolding decodedAs
   pad-passed h =
       let none : eqb (fieldsOf (rowOf form .layout) one two .pad) 0 ≡ true = rw (← same-fields) (eq-eqb (fields .pad) 0 h) in
       simp none
 
-  module _ (one-fits : one < 2 ^ 32) (two-fits : two < 2 ^ 32) (no-pad : fields .pad ≡ 0) where
-    same-judged : judgedBy row flag (fields .first) (fields .second) ≡ judged (commandAs form flag one two)
-    same-judged = rw (is-row, same-fields) (judged-fields form flag one two one-fits two-fits)
+  same-judged : judgedBy row flag (fields .first) (fields .second) ≡ toldFor code parts
+  same-judged = rw (is-row, same-fields)
 
-    pub then-allowed : (kind : Kind) → kind ≡ kindOf form (fields .first) (fields .second)
-        → toldJudged Judged.Allowed ≡ judgedBy row flag (fields .first) (fields .second)
-        → answerOf (Reading.Taken (record { flag = flag; kind = kind })) ≡ decodedAs form flag one two
-    then-allowed kind made e =
-        let same : record { flag = flag; kind = kind } ≡ commandAs form flag one two = rw (made, same-fields) in
-        rw same (allowed (judgeCode (commandAs form flag one two)) (commandAs form flag one two) (e ∙ same-judged)) ∙ sym (pad-passed no-pad)
+  pub then-allowed : fields .pad ≡ 0 → (kind : Kind) → kind ≡ kindOf form (fields .first) (fields .second)
+      → toldJudged Judged.Allowed ≡ judgedBy row flag (fields .first) (fields .second)
+      → answerOf (Reading.Taken (record { flag = flag; kind = kind })) ≡ decodedAs form flag one two
+  then-allowed no-pad kind made e =
+      let same : record { flag = flag; kind = kind } ≡ commandAs form flag one two = rw (made, same-fields) in
+      rw same (allowed code parts (commandAs form flag one two) (e ∙ same-judged)) ∙ sym (pad-passed no-pad)
 
-    pub then-refused : (r : Refusal) → toldJudged (Judged.Refused r) ≡ judgedBy row flag (fields .first) (fields .second)
-        → answerOf (Reading.Refused r) ≡ decodedAs form flag one two
-    then-refused r e =
-        refused r (judgeCode (commandAs form flag one two)) (commandAs form flag one two) (e ∙ same-judged) ∙ sym (pad-passed no-pad)
+  pub then-refused : fields .pad ≡ 0 → (r : Refusal) → toldJudged (Judged.Refused r) ≡ judgedBy row flag (fields .first) (fields .second)
+      → answerOf (Reading.Refused r) ≡ decodedAs form flag one two
+  then-refused no-pad r e = refused r code parts (commandAs form flag one two) (e ∙ same-judged) ∙ sym (pad-passed no-pad)
 
 -- Rows 5 and 6, from what was found for the opcode.
 module _ (opcode : ℕ) (flag : Bool) (words one two : ℕ) where
   abbrev fromFound : Found → Answer
-  fromFound found = answerFor (firstOf (decodeChecks found flag words one two)) (commandAs (formIn found) flag one two)
+  fromFound found =
+      let form = formIn found in
+      answerFor (firstOf (decodeChecks found flag words one two)) (partsAs form one two) (commandAs form flag one two)
 
   from-found : (found : Found) → found ≡ ruleOf opcode → fromFound found ≡ decoded opcode flag words one two
   unfolding decoded
   from-found found e = ap fromFound e
 
-  pub unknown-refused : Found.Unknown ≡ ruleOf opcode → refusedBy (toldWith 5 0) ≡ decoded opcode flag words one two
+  pub unknown-refused : Found.Unknown ≡ ruleOf opcode → refusedBy (plain 5) ≡ decoded opcode flag words one two
   unknown-refused e = from-found Found.Unknown e
 
   sized : (same : Bool) (form : Form)
-      → cond same (decodedAs form flag one two) (refusedBy (toldWith 6 0))
-      ≡ answerFor (firstOf (6 when not same ∷ formChecks form flag one two)) (commandAs form flag one two)
+      → cond same (decodedAs form flag one two) (refusedBy (plain 6))
+      ≡ answerFor (firstOf (6 when not same ∷ formChecks form flag one two)) (partsAs form one two) (commandAs form flag one two)
   unfolding decodedAs
   sized true form = refl
   sized false form = refl
 
   pub known-decoded : (form : Form) (n : ℕ) → Found.Known form n ≡ ruleOf opcode
-      → cond (eqb words n) (decodedAs form flag one two) (refusedBy (toldWith 6 0)) ≡ decoded opcode flag words one two
+      → cond (eqb words n) (decodedAs form flag one two) (refusedBy (plain 6)) ≡ decoded opcode flag words one two
   known-decoded form n e = sized (eqb words n) form ∙ from-found (Found.Known form n) e
 
   pub length-passed : (form : Form) (n : ℕ) → Found.Known form n ≡ ruleOf opcode → words ≡ n
@@ -120,7 +127,7 @@ module _ (opcode : ℕ) (flag : Bool) (words one two : ℕ) where
 
 -- Row 4, from what the code holds: the sum, the last word, and the head and the arguments of the command.
 module _ (s : List ℕ) (words sum last : ℕ) (is-sum : sum ≡ sumOf s (words - 1)) (is-last : last ≡ wordAt s ((words - 1) * 4)) where
-  pub sum-refused : (sum ≡ last → ⊥) → refusedBy (toldWith 4 0) ≡ readWhole s words
+  pub sum-refused : (sum ≡ last → ⊥) → refusedBy (plain 4) ≡ readWhole s words
   unfolding readWhole
   sum-refused h = rw (← is-sum, ← is-last) (simp (ne-eqb sum last h))
 
@@ -150,13 +157,14 @@ reaches s e =
     }
 
 -- One of rows 1 to 3 is the whole answer; where none is due, rows 4 to 10 are.
-ends : (few out cut : Bool) (rest : List Check) (c : Command)
+ends : (few out cut : Bool) (rest : List Check) (parts : Parts) (c : Command)
     → eqb (firstOf (1 when few ∷ 2 when out ∷ 3 when cut ∷ [])) 0 ≡ false
-    → refusedBy (toldWith (firstOf (1 when few ∷ 2 when out ∷ 3 when cut ∷ [])) 0) ≡ answerFor (firstOf (1 when few ∷ 2 when out ∷ 3 when cut ∷ rest)) c
-ends true out cut rest c h = refl
-ends false true cut rest c h = refl
-ends false false true rest c h = refl
-ends false false false rest c h = absurd (let z : _≡_ {A = ℕ} 0 1 = cc in omega arith)
+    → refusedBy (plain (firstOf (1 when few ∷ 2 when out ∷ 3 when cut ∷ [])))
+    ≡ answerFor (firstOf (1 when few ∷ 2 when out ∷ 3 when cut ∷ rest)) parts c
+ends true out cut rest parts c h = refl
+ends false true cut rest parts c h = refl
+ends false false true rest parts c h = refl
+ends false false false rest parts c h = absurd (let z : _≡_ {A = ℕ} 0 1 = cc in omega arith)
 
 pub goes : (s : List ℕ) → reachCode s ≡ 0 → readCode s ≡ firstOf (wholeChecks s (lengthOf s))
 unfolding readCode
@@ -166,10 +174,10 @@ goes s e =
 
 -- What the code holds of the reach, for the reader and for the span.
 module _ (s : List ℕ) where
-  ends-code : (r : Refusal) → reachOf (Reach.Ends r) ≡ reachAt s → (toldOf r ≡ toldWith (reachCode s) 0) × (eqb (reachCode s) 0 ≡ false)
+  ends-code : (r : Refusal) → reachOf (Reach.Ends r) ≡ reachAt s → (toldOf r ≡ plain (reachCode s)) × (eqb (reachCode s) 0 ≡ false)
   unfolding reachAt
   ends-code r e =
-      let same : toldOf r ≡ toldWith (reachCode s) 0 = ap (λ (a : Reached). a .told) e in
+      let same : toldOf r ≡ plain (reachCode s) = ap (λ (a : Reached). a .told) e in
       (same, rw (ap (λ (t : Told). t .code) same) at (refusal-code r))
 
   pub goes-code : (n : ℕ) → reachOf (Reach.Words n) ≡ reachAt s → (reachCode s ≡ 0) × (n ≡ lengthOf s)
@@ -184,7 +192,7 @@ module _ (s : List ℕ) where
       let code = ends-code r e in
       ap refusedBy (code .0)
       ∙ ends (ltb (length s) 8) (ltb (lengthOf s) 2 || ltb 32 (lengthOf s)) (ltb (length s) (lengthOf s * 4)) (wholeChecks s (lengthOf s))
-      (commandIn s (lengthOf s)) (code .1)
+      (saidParts s) (said s) (code .1)
 
   pub read-goes : (n : ℕ) → reachOf (Reach.Words n) ≡ reachAt s → readWhole s n ≡ readOf s
   unfolding readOf readWhole

@@ -1,22 +1,20 @@
--- 01 gives the rule on a goal for its bits as they stand on the wire. Reading judges the command that was made of them, whose goal is two singles.
--- The answer is the same: a single keeps the bits that it was read from unless they are a not-a-number's, and every one of those is out of range.
+-- 01 gives the rule on a goal for its bits as they stand on the wire, and so does reading. A decoded command's goal is two singles, and the answer on
+-- it is the same: a single keeps the bits that it was read from unless they are a not-a-number's, and every one of those is out of range.
 use Prim.Native.Nat.{ℕ, _%_, _^_, _≤_, _<_}
-use mathlib.Core.Path.{_≡_, refl, sym, ap, ap₂, _∙_}
+use mathlib.Core.Path.{_≡_, refl, sym, ap, _∙_}
 use mathlib.Core.Logic.{_↔_, _⊎_, inl, inr}
-use mathlib.Core.List.{List, _∷_}
-use mathlib.Core.Bool.{Bool, true, false, cond, not, _||_, false≢true}
+use mathlib.Core.Bool.{Bool, true, false, cond, _||_, false≢true}
 use native.Mathlib.Omega.{arith}
 use lib.Dec.{eqb, leb, ltb}
-use lib.Ieee.{binary32, ofBits, toBits}
+use lib.Ieee.{nan, binary32, ofBits, toBits}
 use lib.Ieee.Bits.{toBits-ofBits, nanBits-is}
 use borrow.Author.Tests.{eqb-true, ne-eqb, leb-true, le-leb, lt-leb, ltb-true, ltb-false}
 use Rattle.wire.specs.declared.table.Form.{Form}
 use Rattle.wire.specs.declared.table.Layout.{Layout}
-use Rattle.wire.specs.declared.kinds.Parts.{Parts}
-use Rattle.wire.specs.Codes.{Check, _when_, firstOf}
 use Rattle.wire.specs.Table.{rowOf}
-use Rattle.wire.specs.Judge.{toldWith, inLimits, firstBad, rowChecks, parOf, judgedBy, firstBadIn, argChecks, judgeCode, judged}
-use Rattle.wire.specs.Read.{fieldsOf, commandAs, formChecks}
+use Rattle.wire.specs.Kind.{partsOf}
+use Rattle.wire.specs.Judge.{inLimits, badIn, partChecks, argChecks}
+use Rattle.wire.specs.Read.{fieldsOf, partsAs, commandAs}
 use Rattle.wire.proofs.Singles.{low-is-number, high-is-nan}
 use Rattle.wire.proofs.Layouts.{IsBits, BitsIn, fields-within, parts-kind}
 
@@ -53,7 +51,7 @@ bits-kept bits h number = toBits-ofBits binary32 bits h (rw (nanBits-is binary32
 pub nan-refused : (bits : ℕ) → NotANumber bits → goalAllowed bits ≡ false
 nan-refused bits above = simp (ne-eqb bits 0x80000000 (λ e. omega arith), le-leb 0 bits (omega arith), lt-leb bits 0x447fffff (omega arith))
 
--- So the single that was read is in range exactly where the bits are, and then its bits are those that it was read from.
+-- So the single that was read is in range exactly where the bits are.
 goal-limits : (bits : ℕ) → bits < 2 ^ 32 → goalAllowed (toBits binary32 (ofBits binary32 bits)) ≡ goalAllowed bits
 unfolding toBits
 goal-limits bits h = go (ltb 0x7f800000 (bits % 0x80000000)) refl
@@ -64,26 +62,22 @@ goal-limits bits h = go (ltb 0x7f800000 (bits % 0x80000000)) refl
         rw (high-is-nan bits above) (sym (nan-refused bits above))
     go false is = ap goalAllowed (bits-kept bits h (λ above. omega (arith, ltb-false 0x7f800000 (bits % 0x80000000) is)))
 
-pub goal-bits : (bits : ℕ) → bits < 2 ^ 32 → goalAllowed (toBits binary32 (ofBits binary32 bits)) ≡ true → IsBits bits
-goal-bits bits h allowed =
-    bits-kept bits h (λ above. false≢true (sym (nan-refused bits above) ∙ sym (goal-limits bits h) ∙ allowed))
+-- A decoded not-a-number is told by the bits that all of them count as.
+pub nan-value : toBits binary32 nan ≡ 0x7fc00000
+unfolding toBits
+nan-value = refl
 
 -- Rows 8 to 10 on the numbers in the fields, and the first bad one, are those of the command that is made of them.
 record SameRows (form : Form) (flag : Bool) (one two : ℕ) : Type 0 where
-  checks : rowChecks (rowOf form) flag (fieldsOf (rowOf form .layout) one two .first) (fieldsOf (rowOf form .layout) one two .second)
-      ≡ argChecks (commandAs form flag one two)
-  bad : firstBad (rowOf form) (fieldsOf (rowOf form .layout) one two .first) (fieldsOf (rowOf form .layout) one two .second)
-      ≡ firstBadIn (commandAs form flag one two)
+  checks : argChecks (commandAs form flag one two) ≡ partChecks flag (partsAs form one two)
+  bad : badIn (partsOf (commandAs form flag one two .kind)) ≡ badIn (partsAs form one two)
 
 -- They are where the numbers are the command's own.
 fits-same : (form : Form) (flag : Bool) (one two : ℕ) → one < 2 ^ 32 → BitsIn (rowOf form .layout) one two → SameRows form flag one two
 fits-same form flag one two h bits =
-    let fields = fieldsOf (rowOf form .layout) one two in
-    let same = parts-kind form (fields .first) (fields .second) (fields-within (rowOf form .layout) one two h bits) in
-    record {
-      checks = sym (ap (λ (parts : Parts). rowChecks (rowOf (parts .form)) flag (parts .first) (parts .second)) same);
-      bad = sym (ap (λ (parts : Parts). firstBad (rowOf (parts .form)) (parts .first) (parts .second)) same);
-    }
+    let parts = partsAs form one two in
+    let same = parts-kind form (parts .first) (parts .second) (fields-within (rowOf form .layout) one two h bits) in
+    record { checks = ap (partChecks flag) same; bad = ap badIn same }
 
 -- And of a goal too, whose bits may be those of no number.
 same-rows : (form : Form) (flag : Bool) (one two : ℕ) → one < 2 ^ 32 → two < 2 ^ 32 → SameRows form flag one two
@@ -104,27 +98,14 @@ same-rows Form.Wait flag one two h k = fits-same Form.Wait flag one two h tt
 same-rows Form.Stop flag one two h k = fits-same Form.Stop flag one two h tt
 same-rows Form.Clear flag one two h k = fits-same Form.Clear flag one two h tt
 
--- Rows 7 to 10 may therefore be read on the wire's own numbers: with words of 32 bits, rows 8 to 10 on the fields as they stand there are those on
--- the command that was made of them, and so is the first bad argument.
+-- So with words of 32 bits the judgement on the wire's own numbers, goals by their bits, is the one on the command that was made of them.
 pub rows-on-wire : (form : Form) (flag : Bool) (one two : ℕ) → one < 2 ^ 32 → two < 2 ^ 32
-    → let fields = fieldsOf (rowOf form .layout) one two in
-    (formChecks form flag one two ≡ 7 when not (eqb (fields .pad) 0) ∷ rowChecks (rowOf form) flag (fields .first) (fields .second))
-    × (firstBadIn (commandAs form flag one two) ≡ firstBad (rowOf form) (fields .first) (fields .second))
+    → (argChecks (commandAs form flag one two) ≡ partChecks flag (partsAs form one two))
+    × (badIn (partsOf (commandAs form flag one two .kind)) ≡ badIn (partsAs form one two))
 rows-on-wire form flag one two h k =
-    let fields = fieldsOf (rowOf form .layout) one two in
     let same = same-rows form flag one two h k in
-    (ap (λ rows. 7 when not (eqb (fields .pad) 0) ∷ rows) (sym (same .checks)), sym (same .bad))
-
--- So code and parameter are the same.
-pub judged-fields : (form : Form) (flag : Bool) (one two : ℕ) → one < 2 ^ 32 → two < 2 ^ 32
-    → let fields = fieldsOf (rowOf form .layout) one two in
-    judgedBy (rowOf form) flag (fields .first) (fields .second) ≡ judged (commandAs form flag one two)
-unfolding judgeCode
-judged-fields form flag one two h k =
-    let same = same-rows form flag one two h k in
-    ap₂ (λ (rows : List Check) bad. toldWith (firstOf rows) (parOf (firstOf rows) bad)) (same .checks) (same .bad)
+    (same .checks, same .bad)
 
 -- The goal's row by itself: the first bad value is the first whose bits are not allowed.
-pub goal-judged : (flag : Bool) (xbits ybits : ℕ) → xbits < 2 ^ 32 → ybits < 2 ^ 32
-    → firstBadIn (commandAs Form.TrkGoal flag xbits ybits) ≡ cond (goalAllowed xbits) (cond (goalAllowed ybits) 0 2) 1
-goal-judged flag xbits ybits h k = rows-on-wire Form.TrkGoal flag xbits ybits h k .1
+pub goal-judged : (xbits ybits : ℕ) → badIn (partsAs Form.TrkGoal xbits ybits) ≡ cond (goalAllowed xbits) (cond (goalAllowed ybits) 0 2) 1
+goal-judged xbits ybits = refl

@@ -11,6 +11,7 @@ pub mod Calls
 pub mod Answers
 pub mod Front
 pub mod Layouts
+pub mod Ranges
 pub mod FirstOf
 pub mod Lengths
 pub mod Sums

@@ -11,9 +11,10 @@ use borrow.Author.Tests.{eq-eqb, eqb-true, eqb-false, le-ltb, ltb-false}
 use Rattle.words.specs.BigEndian.{wordAt}
 use Rattle.words.proofs.Laws.{half-on, word-on}
 use Rattle.wire.specs.declared.kinds.Command.{Command}
+use Rattle.wire.specs.declared.kinds.Parts.{Parts}
 use Rattle.wire.specs.Codes.{Check, _when_, firstOf}
-use Rattle.wire.specs.Judge.{toldWith}
-use Rattle.wire.specs.Read.{answerFor, lengthOf, sumOf, thirdWord, wholeChecks, commandIn}
+use Rattle.wire.specs.Judge.{plain}
+use Rattle.wire.specs.Read.{answerFor, lengthOf, sumOf, thirdWord, wholeChecks, saidParts, said}
 use Rattle.wire.specs.Read.{reachChecks, reachCode, readChecks, readCode, readOf, spanOf}
 use Rattle.wire.specs.Steps.{readWhole}
 use Rattle.wire.proofs.Order.{FirstAt, none-due, read-order}
@@ -105,15 +106,15 @@ reached s not-1 not-2 not-3 =
     go false false false not-1 not-2 not-3 = refl
 
 -- A length out of bounds is refused whatever follows it.
-second : (few out : Bool) (rest : List Check) (c : Command) → few ≡ false → out ≡ true
-    → answerFor (firstOf (1 when few ∷ 2 when out ∷ rest)) c ≡ refusedBy (toldWith 2 0)
-second few out rest c long out-of-bounds = rw (long, out-of-bounds)
+second : (few out : Bool) (rest : List Check) (parts : Parts) (c : Command) → few ≡ false → out ≡ true
+    → answerFor (firstOf (1 when few ∷ 2 when out ∷ rest)) parts c ≡ refusedBy (plain 2)
+second few out rest parts c long out-of-bounds = rw (long, out-of-bounds)
 
-out-read : (s : List ℕ) → 8 ≤ length s → (ltb (lengthOf s) 2 || ltb 32 (lengthOf s)) ≡ true → readOf s ≡ refusedBy (toldWith 2 0)
+out-read : (s : List ℕ) → 8 ≤ length s → (ltb (lengthOf s) 2 || ltb 32 (lengthOf s)) ≡ true → readOf s ≡ refusedBy (plain 2)
 unfolding readOf
 out-read s long out =
     second (ltb (length s) 8) (ltb (lengthOf s) 2 || ltb 32 (lengthOf s)) (3 when ltb (length s) (lengthOf s * 4) ∷ wholeChecks s (lengthOf s))
-    (commandIn s (lengthOf s)) (le-ltb (length s) 8 long) out
+    (saidParts s) (said s) (le-ltb (length s) 8 long) out
 
 out-on : (s t : List ℕ) → readCode s ≡ 2 → readOf (s ++ t) ≡ readOf s
 out-on s t e =

@@ -20,23 +20,23 @@ use Rattle.wire.specs.declared.kinds.Kind.{Kind}
 use Rattle.wire.specs.declared.kinds.Command.{Command}
 use Rattle.wire.specs.declared.kinds.Parts.{Parts}
 use Rattle.wire.specs.declared.decoding.Fields.{Fields}
+use Rattle.wire.specs.Codes.{firstOf}
 use Rattle.wire.specs.Table.{rowOf, ruleOf}
 use Rattle.wire.specs.Kind.{partsWith, partsOf, kindOf}
-use Rattle.wire.specs.Judge.{toldWith, inLimits, firstBad, firstBadIn, argChecks, judgeCode}
-use Rattle.wire.specs.Read.{answerFor, fieldsWith, fieldsOf, opcodeOf, flagOf, lengthOf, sumOf, thirdWord, commandAs, commandIn, formIn}
-use Rattle.wire.specs.Read.{decodeChecks, reachCode, readChecks, readCode, readOf, spanOf}
+use Rattle.wire.specs.Judge.{plain, badIn, partChecks, judgeCode}
+use Rattle.wire.specs.Read.{Answer, answerFor, fieldsWith, fieldsOf, opcodeOf, flagOf, lengthOf, sumOf, thirdWord, partsAs, commandAs, commandIn}
+use Rattle.wire.specs.Read.{formIn, decodeChecks, reachCode, readChecks, readCode, readOf, spanOf}
 use Rattle.wire.specs.Write.{headOf, packedOf, closed, wordsOf, commandBytes}
 use Rattle.wire.specs.Steps.{readWhole}
-use Rattle.wire.proofs.Order.{NoneDue, none-due, read-order, judge-order}
+use Rattle.wire.proofs.Order.{NoneDue, none-due, read-order}
 use Rattle.wire.proofs.Answers.{Reaches, reaches, sum-passed, length-passed, pad-passed}
 use Rattle.wire.proofs.Local.{read-whole, span-whole, reached}
 use Rattle.wire.proofs.Front.{Bytes, high-half, low-half, opcode-back, flag-back, length-back, head-made, closed-summed}
 use Rattle.wire.proofs.Front.{sum-closed, frontWords, closed-front}
 use Rattle.wire.proofs.Sums.{word-back}
 use Rattle.wire.proofs.Lengths.{few-words, length-closed}
-use Rattle.wire.proofs.Layouts.{argWords, length-packed, form-words, form-found, found-form, Within, fields-packed, packed-fields, BitsIn}
-use Rattle.wire.proofs.Layouts.{fields-within, parts-kind}
-use Rattle.wire.proofs.Goals.{goal-bits}
+use Rattle.wire.proofs.Layouts.{argWords, length-packed, form-words, form-found, found-form, Within, fields-packed, packed-fields}
+use Rattle.wire.proofs.Ranges.{in-range-parts, in-range-judge}
 
 -- A command that a program can hold: each argument within its width, and a goal's are singles.
 abbrev pub HeldKind : Kind → Type 0
@@ -123,6 +123,10 @@ arg-two : (w : ℕ) (ps us t : List ℕ) (n : ℕ) → n ≡ length ps + 2
 arg-two w [] us t n e = refl
 arg-two w (p ∷ []) us t n e = refl
 arg-two w (p ∷ q ∷ ps) us t n e = rw (le-ltb n 4 (omega arith)) (sym (word-back (w ∷ p ∷ q ∷ (ps ++ us)) t 2 (omega arith)))
+
+-- The answer to a command by its parts, rows 8 to 10.
+abbrev answerBy : Parts → Command → Answer
+answerBy parts c = answerFor (firstOf (partChecks (c .flag) parts)) parts c
 
 abbrev commandWith : Bool → Kind → Command
 commandWith flag kind = record { flag = flag; kind = kind }
@@ -217,7 +221,8 @@ module _ (c : Command) (t : List ℕ) where
         ∙ ap (commandWith (c .flag)) (held-made (c .kind) held)
 
     -- A command that a program can hold and that is allowed is read back from its bytes, whatever follows them.
-    pub read-back : judgeCode c ≡ 0 → readOf (commandBytes c ++ t) ≡ record { told = toldWith 0 0; taken = c ∷ [] }
+    pub read-back : judgeCode c ≡ 0 → readOf (commandBytes c ++ t) ≡ record { told = plain 0; taken = c ∷ [] }
+    unfolding judgeCode
     read-back allowed =
         read-whole s whole
         ∙ ap (readWhole s) length-is
@@ -226,40 +231,9 @@ module _ (c : Command) (t : List ℕ) where
         ∙ sym (length-passed (opcodeOf s) (flagOf s) (row .words) one two (parts .form) (row .words)
         (sym (ap ruleOf opcode-is ∙ form-found (parts .form))) refl)
         ∙ pad-passed (parts .form) (flagOf s) one two row (fieldsOf (row .layout) one two) refl refl (ap (λ (fields : Fields). fields .pad) fields-are)
-        ∙ ap (λ (d : Command). answerFor (judgeCode d) d) command-is
-        ∙ ap (λ code. answerFor code c) allowed
-
--- The bits of a goal within its limits.
-passed : (a b : Bool) → _≡_ {A = ℕ} (cond a (cond b 0 2) 1) 0 → (a ≡ true) × (b ≡ true)
-passed true true e = (refl, refl)
-passed true false e = absurd (omega arith)
-passed false b e = absurd (omega arith)
-
-goal-pair : (one two : ℕ) → one < 2 ^ 32 → two < 2 ^ 32
-    → firstBad (rowOf Form.TrkGoal) (toBits binary32 (ofBits binary32 one)) (toBits binary32 (ofBits binary32 two)) ≡ 0
-    → BitsIn Layout.Singles one two
-goal-pair one two h k ok =
-    let within = passed (inLimits Layout.Singles 0 0x447fffff (toBits binary32 (ofBits binary32 one)))
-    (inLimits Layout.Singles 0 0x447fffff (toBits binary32 (ofBits binary32 two))) ok in
-    (goal-bits one h (within .0), goal-bits two k (within .1))
-
-bits-in : (form : Form) (flag : Bool) (one two : ℕ) → one < 2 ^ 32 → two < 2 ^ 32 → firstBadIn (commandAs form flag one two) ≡ 0
-    → BitsIn (rowOf form .layout) one two
-bits-in Form.ImgPwr flag one two h k ok = tt
-bits-in Form.ImgRegion flag one two h k ok = tt
-bits-in Form.ImgTrack flag one two h k ok = tt
-bits-in Form.TrkAlg flag one two h k ok = tt
-bits-in Form.TrkLoop flag one two h k ok = tt
-bits-in Form.ImgImage flag one two h k ok = tt
-bits-in Form.TrkGoal flag one two h k ok = goal-pair one two h k ok
-bits-in Form.TlmFlush flag one two h k ok = tt
-bits-in Form.FlushAuto flag one two h k ok = tt
-bits-in Form.Open flag one two h k ok = tt
-bits-in Form.Close flag one two h k ok = tt
-bits-in Form.Run flag one two h k ok = tt
-bits-in Form.Wait flag one two h k ok = tt
-bits-in Form.Stop flag one two h k ok = tt
-bits-in Form.Clear flag one two h k ok = tt
+        ∙ ap (λ (d : Command). answerBy (partsAs (parts .form) one two) d) command-is
+        ∙ ap (λ (fields : Fields). answerBy (partsWith (parts .form) (fields .first) (fields .second)) c) fields-are
+        ∙ ap (λ code. answerFor code parts c) allowed
 
 -- What an accepted reading passed: the form that it found, with its opcode and length, no pad, and arguments and flag that are allowed.
 record Passed (s : List ℕ) : Type 0 where
@@ -269,7 +243,8 @@ record Passed (s : List ℕ) : Type 0 where
   words : lengthOf s ≡ rowOf form .words
   sum : sumOf s (lengthOf s - 1) ≡ wordAt s ((lengthOf s - 1) * 4)
   no-pad : fieldsOf (rowOf form .layout) (wordAt s 4) (thirdWord s (lengthOf s)) .pad ≡ 0
-  judged : judgeCode (commandAs form (flagOf s) (wordAt s 4) (thirdWord s (lengthOf s))) ≡ 0
+  in-range : badIn (partsAs form (wordAt s 4) (thirdWord s (lengthOf s))) ≡ 0
+  judged : firstOf (partChecks (flagOf s) (partsAs form (wordAt s 4) (thirdWord s (lengthOf s)))) ≡ 0
 
 alike : (a b : ℕ) → not (eqb a b) ≡ false → a ≡ b
 alike a b e = go (eqb a b) refl e
@@ -279,7 +254,6 @@ alike a b e = go (eqb a b) refl e
     go false is e = absurd (let z : _≡_ {A = ℕ} 0 1 = cc in omega arith)
 
 read-passed : (s : List ℕ) → readCode s ≡ 0 → Passed s
-unfolding judgeCode
 read-passed s read = go (ruleOf (opcodeOf s)) refl (rows .1 .1 .1 .1)
   where
     rows : NoneDue (readChecks s)
@@ -297,7 +271,8 @@ read-passed s read = go (ruleOf (opcodeOf s)) refl (rows .1 .1 .1 .1)
           words = alike (lengthOf s) n (none .1 .0) ∙ named .1;
           sum = alike (sumOf s (lengthOf s - 1)) (wordAt s ((lengthOf s - 1) * 4)) (rows .1 .1 .1 .0);
           no-pad = alike (fieldsOf (rowOf form .layout) (wordAt s 4) (thirdWord s (lengthOf s)) .pad) 0 (none .1 .1 .0);
-          judged = none-due (argChecks (commandAs form (flagOf s) (wordAt s 4) (thirdWord s (lengthOf s)))) (none .1 .1 .1);
+          in-range = alike (badIn (partsAs form (wordAt s 4) (thirdWord s (lengthOf s)))) 0 (none .1 .1 .1 .0);
+          judged = none-due (partChecks (flagOf s) (partsAs form (wordAt s 4) (thirdWord s (lengthOf s)))) (none .1 .1 .1);
         }
 
 -- A command that was read is one that a program can hold.
@@ -311,18 +286,14 @@ read-held s words =
 pub read-allowed : (s : List ℕ) → readCode s ≡ 0 → judgeCode (commandIn s (lengthOf s)) ≡ 0
 read-allowed s read =
     let p = read-passed s read in
-    ap (λ form. judgeCode (commandAs form (flagOf s) (wordAt s 4) (thirdWord s (lengthOf s)))) (p .found) ∙ p .judged
+    let parts = partsAs (p .form) (wordAt s 4) (thirdWord s (lengthOf s)) in
+    ap (λ form. judgeCode (commandAs form (flagOf s) (wordAt s 4) (thirdWord s (lengthOf s)))) (p .found)
+    ∙ in-range-judge (p .form) (flagOf s) (parts .first) (parts .second) (p .in-range)
+    ∙ p .judged
 
 -- Words that were read are below 2 ^ 32.
 word-fits : (s : List ℕ) (i : ℕ) → Bytes s → wordAt s i < 2 ^ 32
 word-fits s i bytes = omega (arith, bytes i, bytes (i + 1), bytes (i + 2), bytes (i + 2 + 1))
-
-third-fits : (s : List ℕ) (words : ℕ) → Bytes s → thirdWord s words < 2 ^ 32
-third-fits s words bytes = go (ltb words 4)
-  where
-    go : (b : Bool) → cond b 0 (wordAt s 8) < 2 ^ 32
-    go true = omega arith
-    go false = word-fits s 8 bytes
 
 -- The first word and the arguments' words are the words at the front but for the last.
 front-args : (layout : Layout) (s : List ℕ) (words : ℕ) → words ≡ argWords layout + 2
@@ -356,14 +327,8 @@ module _ (s : List ℕ) (bytes : Bytes s) (read : readCode s ≡ 0) where
   abbrev command : Command
   command = commandAs (p .form) (flagOf s) (wordAt s 4) third
 
-  in-limits : firstBadIn command ≡ 0
-  in-limits = alike (firstBadIn command) 0 (judge-order command .accepted .0 (p .judged) .0)
-
   parts-are : partsOf (command .kind) ≡ partsWith (p .form) (fields .first) (fields .second)
-  parts-are =
-      parts-kind (p .form) (fields .first) (fields .second)
-      (fields-within (found-row .layout) (wordAt s 4) third (word-fits s 4 bytes)
-      (bits-in (p .form) (flagOf s) (wordAt s 4) third (word-fits s 4 bytes) (third-fits s (lengthOf s) bytes) in-limits))
+  parts-are = in-range-parts (p .form) (fields .first) (fields .second) (p .in-range)
 
   passes : reachCode s ≡ 0
   passes = reached s (λ e. omega arith) (λ e. omega arith) (λ e. omega arith)

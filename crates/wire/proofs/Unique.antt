@@ -17,7 +17,7 @@ use Rattle.wire.specs.Write.{Wrote, wroteOf}
 use Rattle.wire.specs.Steps.{Reached, reachOf}
 use Rattle.wire.proofs.Answers.{refusal-code}
 
--- The refusal with a code and a parameter; for a code that no refusal has, any will do.
+-- The refusal of which this is told; for a code that no refusal has, any will do.
 abbrev pub refusalOf : Told → Refusal
 refusalOf t =
     cond (eqb (t .code) 1) Refusal.TooFewBytes
@@ -27,7 +27,7 @@ refusalOf t =
     (cond (eqb (t .code) 5) Refusal.UnknownOpcode
     (cond (eqb (t .code) 6) Refusal.WrongLength
     (cond (eqb (t .code) 7) Refusal.PadNotZero
-    (cond (eqb (t .code) 8) (Refusal.OutOfRange (t .par))
+    (cond (eqb (t .code) 8) (Refusal.OutOfRange (t .stray))
     (cond (eqb (t .code) 9) Refusal.FlagForbidden
     (cond (eqb (t .code) 10) Refusal.FlagMissing Refusal.NoRoom)))))))))
 
@@ -39,12 +39,12 @@ refusal-back Refusal.SumDiffers = refl
 refusal-back Refusal.UnknownOpcode = refl
 refusal-back Refusal.WrongLength = refl
 refusal-back Refusal.PadNotZero = refl
-refusal-back (Refusal.OutOfRange par) = refl
+refusal-back (Refusal.OutOfRange stray) = refl
 refusal-back Refusal.FlagForbidden = refl
 refusal-back Refusal.FlagMissing = refl
 refusal-back Refusal.NoRoom = refl
 
--- Two refusals with the same code and parameter are the same.
+-- Two refusals of which the same is told, code, parameter, value and limits, are the same.
 pub one-refusal : (a b : Refusal) → toldOf a ≡ toldOf b → a ≡ b
 one-refusal = one-to-one toldOf refusalOf refusal-back
 
@@ -55,7 +55,7 @@ told t accepted refused = cond (eqb (t .code) 0) accepted (refused (refusalOf t)
 told-back : {A : Type 0} (r : Refusal) (accepted : A) (refused : Refusal → A) → told (toldOf r) accepted refused ≡ refused r
 told-back r accepted refused = rw (refusal-code r, refusal-back r)
 
--- Two judgements with the same code and parameter are the same.
+-- Two judgements of which the same is told are the same.
 pub one-judged : (a b : Judged) → toldJudged a ≡ toldJudged b → a ≡ b
 one-judged = one-to-one toldJudged judgedOf back
   where
@@ -77,7 +77,7 @@ one-reading = one-to-one answerOf readingOf back
     back (Reading.Taken c) = refl
     back (Reading.Refused r) = ap Reading.Refused (refusal-back r)
 
--- Two answers of a writer with the same code, parameter and number of bytes are the same.
+-- Two answers of a writer that tell the same, with the same number of bytes, are the same.
 pub one-writing : (a b : Writing) → wroteOf a ≡ wroteOf b → a ≡ b
 one-writing = one-to-one wroteOf writingOf back
   where

@@ -9,7 +9,8 @@ use lib.ListN.{length}
 use Rattle.words.specs.BigEndian.{hasRoom, written}
 use Rattle.wire.specs.declared.kinds.Command.{Command}
 use Rattle.wire.specs.Codes.{_when_}
-use Rattle.wire.specs.Judge.{toldWith, argChecks, judgeCode, firstBadIn, parOf, judged}
+use Rattle.wire.specs.Kind.{partsOf}
+use Rattle.wire.specs.Judge.{toldFor, argChecks, judgeCode, judged}
 use Rattle.wire.specs.Write.{commandBytes, writeCode, wroteAt, roomAfter}
 use Rattle.wire.specs.Steps.{wroteAllowed}
 use Rattle.wire.proofs.FirstOf.{first-append}
@@ -21,9 +22,9 @@ module _ (c : Command) (room : List ℕ) where
   code-is = first-append (argChecks c) (24 when not (hasRoom (commandBytes c) room) ∷ []) (omega arith, (omega arith, (omega arith, tt)))
 
   answer-at : (code : ℕ) → writeCode c room ≡ code
-      → wroteAt c room ≡ record { told = toldWith code (parOf code (firstBadIn c)); bytes = cond (eqb code 0) (length (commandBytes c)) 0 }
+      → wroteAt c room ≡ record { told = toldFor code (partsOf (c .kind)); bytes = cond (eqb code 0) (length (commandBytes c)) 0 }
   unfolding wroteAt
-  answer-at code e = ap (λ n. record { told = toldWith n (parOf n (firstBadIn c)); bytes = cond (eqb n 0) (length (commandBytes c)) 0 }) e
+  answer-at code e = ap (λ n. record { told = toldFor n (partsOf (c .kind)); bytes = cond (eqb n 0) (length (commandBytes c)) 0 }) e
 
   room-at : (code : ℕ) → writeCode c room ≡ code → roomAfter c room ≡ cond (eqb code 0) (written (commandBytes c) room) room
   unfolding roomAfter

@@ -1,4 +1,4 @@
--- 01's number and parameter of each refusal, and rows 8 to 10 of its codes, on a decoded command.
+-- 01's number of each refusal and, for code 8, what was wrong with the number (02, Q-6); and rows 8 to 10 of 01's codes, on a form and two numbers.
 use Prim.Native.Nat.{ℕ}
 use mathlib.Core.List.{List, [], _∷_}
 use mathlib.Core.Bool.{Bool, true, false, cond, not, _&&_, _||_}
@@ -7,6 +7,8 @@ use Rattle.wire.specs.declared.table.Layout.{Layout}
 use Rattle.wire.specs.declared.table.FlagRule.{FlagRule}
 use Rattle.wire.specs.declared.table.Row.{Row}
 use Rattle.wire.specs.declared.kinds.Command.{Command}
+use Rattle.wire.specs.declared.kinds.Parts.{Parts}
+use Rattle.wire.specs.declared.judging.Stray.{Stray}
 use Rattle.wire.specs.declared.judging.Refusal.{Refusal}
 use Rattle.wire.specs.declared.judging.Told.{Told}
 use Rattle.wire.specs.declared.judging.Judged.{Judged}
@@ -14,25 +16,37 @@ use Rattle.wire.specs.Codes.{Check, _when_, firstOf}
 use Rattle.wire.specs.Table.{rowOf}
 use Rattle.wire.specs.Kind.{partsOf}
 
-abbrev pub toldWith : ℕ → ℕ → Told
-toldWith code par = record { code = code; par = par }
+-- 02, Q-6: an argument out of range by its parameter, 1 or 2, with "the value found and the lowest and highest allowed".
+abbrev pub strayWith : ℕ → ℕ → ℕ → ℕ → Stray
+strayWith par value low high = record { par = par; value = value; low = low; high = high }
 
--- 01, "Codes": the number and the parameter of each refusal.
+-- All four are 0 where there is none.
+abbrev pub noStray : Stray
+noStray = strayWith 0 0 0 0
+
+abbrev pub toldWith : ℕ → Stray → Told
+toldWith code stray = record { code = code; stray = stray }
+
+-- A code by itself.
+abbrev pub plain : ℕ → Told
+plain code = toldWith code noStray
+
+-- 01, "Codes": the number of each refusal, and beside 8 what was wrong with the number.
 abbrev pub toldOf : Refusal → Told
-toldOf Refusal.TooFewBytes = toldWith 1 0
-toldOf Refusal.LengthOutOfBounds = toldWith 2 0
-toldOf Refusal.CutOff = toldWith 3 0
-toldOf Refusal.SumDiffers = toldWith 4 0
-toldOf Refusal.UnknownOpcode = toldWith 5 0
-toldOf Refusal.WrongLength = toldWith 6 0
-toldOf Refusal.PadNotZero = toldWith 7 0
-toldOf (Refusal.OutOfRange par) = toldWith 8 par
-toldOf Refusal.FlagForbidden = toldWith 9 0
-toldOf Refusal.FlagMissing = toldWith 10 0
-toldOf Refusal.NoRoom = toldWith 24 0
+toldOf Refusal.TooFewBytes = plain 1
+toldOf Refusal.LengthOutOfBounds = plain 2
+toldOf Refusal.CutOff = plain 3
+toldOf Refusal.SumDiffers = plain 4
+toldOf Refusal.UnknownOpcode = plain 5
+toldOf Refusal.WrongLength = plain 6
+toldOf Refusal.PadNotZero = plain 7
+toldOf (Refusal.OutOfRange stray) = toldWith 8 stray
+toldOf Refusal.FlagForbidden = plain 9
+toldOf Refusal.FlagMissing = plain 10
+toldOf Refusal.NoRoom = plain 24
 
 abbrev pub toldJudged : Judged → Told
-toldJudged Judged.Allowed = toldWith 0 0
+toldJudged Judged.Allowed = plain 0
 toldJudged (Judged.Refused refusal) = toldOf refusal
 
 -- 01: a goal's bits may also be exactly 0x80000000 (minus zero). With the limits of its row this is 01's rule on a goal (proofs/Goals,
@@ -55,6 +69,16 @@ firstBad row first second =
     (cond (inLimits (row .layout) (row .low2) (row .high2) second) 0 2)
     1
 
+-- The argument that a parameter names: its value, and the limits that the row has for it.
+abbrev pub named : Row → ℕ → ℕ → ℕ → Stray
+named row first second par =
+    cond (eqb par 1) (strayWith 1 first (row .low1) (row .high1))
+    (cond (eqb par 2) (strayWith 2 second (row .low2) (row .high2)) noStray)
+
+-- "the first bad one", with its value and limits.
+abbrev pub strayBy : Row → ℕ → ℕ → Stray
+strayBy row first second = named row first second (firstBad row first second)
+
 abbrev pub isNever : FlagRule → Bool
 isNever FlagRule.Either = false
 isNever FlagRule.Never = true
@@ -73,31 +97,37 @@ flagChecks rule flag = 9 when (isNever rule && flag) ∷ 10 when (isAlways rule 
 abbrev pub rowChecks : Row → Bool → ℕ → ℕ → List Check
 rowChecks row flag first second = 8 when not (eqb (firstBad row first second) 0) ∷ flagChecks (row .flags) flag
 
--- "the parameter byte says 1 or 2, the first bad one": 0 unless the code is 8.
-abbrev pub parOf : ℕ → ℕ → ℕ
-parOf code bad = cond (eqb code 8) bad 0
+-- "0 unless the code is 8": parameter, value and limits.
+abbrev pub strayFor : ℕ → Stray → Stray
+strayFor code stray = cond (eqb code 8) stray noStray
 
 -- The judgement on a flag and two numbers, by a row of the table.
 abbrev pub judgedBy : Row → Bool → ℕ → ℕ → Told
 judgedBy row flag first second =
     let code = firstOf (rowChecks row flag first second) in
-    toldWith code (parOf code (firstBad row first second))
+    toldWith code (strayFor code (strayBy row first second))
 
--- The first bad argument of a decoded command, by the row of its form.
-abbrev pub firstBadIn : Command → ℕ
-firstBadIn c =
-    let parts = partsOf (c .kind) in
-    firstBad (rowOf (parts .form)) (parts .first) (parts .second)
+-- The same of a form and two numbers, by the row of the form: of a decoded command, of a command's fields on the wire, or of a typed line.
+abbrev pub badIn : Parts → ℕ
+badIn parts = firstBad (rowOf (parts .form)) (parts .first) (parts .second)
+
+abbrev pub strayIn : Parts → Stray
+strayIn parts = strayBy (rowOf (parts .form)) (parts .first) (parts .second)
+
+abbrev pub partChecks : Bool → Parts → List Check
+partChecks flag parts = rowChecks (rowOf (parts .form)) flag (parts .first) (parts .second)
+
+-- What is told of a form and two numbers with this code.
+abbrev pub toldFor : ℕ → Parts → Told
+toldFor code parts = toldWith code (strayFor code (strayIn parts))
 
 -- Rows 8 to 10, on a decoded command.
 abbrev pub argChecks : Command → List Check
-argChecks c =
-    let parts = partsOf (c .kind) in
-    rowChecks (rowOf (parts .form)) (c .flag) (parts .first) (parts .second)
+argChecks c = partChecks (c .flag) (partsOf (c .kind))
 
 unfoldable pub judgeCode : Command → ℕ
 judgeCode c = firstOf (argChecks c)
 
 -- The judgement on a decoded command.
 abbrev pub judged : Command → Told
-judged c = toldWith (judgeCode c) (parOf (judgeCode c) (firstBadIn c))
+judged c = toldFor (judgeCode c) (partsOf (c .kind))

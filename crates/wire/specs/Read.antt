@@ -10,13 +10,14 @@ use Rattle.wire.specs.declared.table.Form.{Form}
 use Rattle.wire.specs.declared.table.Layout.{Layout}
 use Rattle.wire.specs.declared.table.Found.{Found}
 use Rattle.wire.specs.declared.kinds.Command.{Command}
+use Rattle.wire.specs.declared.kinds.Parts.{Parts}
 use Rattle.wire.specs.declared.judging.Told.{Told}
 use Rattle.wire.specs.declared.decoding.Reading.{Reading}
 use Rattle.wire.specs.declared.decoding.Fields.{Fields}
 use Rattle.wire.specs.Codes.{Check, _when_, firstOf}
 use Rattle.wire.specs.Table.{rowOf, ruleOf}
-use Rattle.wire.specs.Kind.{kindOf}
-use Rattle.wire.specs.Judge.{toldWith, toldOf, argChecks, firstBadIn, parOf}
+use Rattle.wire.specs.Kind.{partsWith, kindOf}
+use Rattle.wire.specs.Judge.{plain, toldOf, toldFor, partChecks}
 
 -- Word 1: opcode, 16 bits; macro flag, 1 bit; length in words, 15 bits.
 abbrev pub opcodeOf : List ℕ → ℕ
@@ -48,24 +49,29 @@ fieldsOf Layout.Half one two = fieldsWith (one / 65536) 0 (one % 65536)
 fieldsOf Layout.Halves one two = fieldsWith (one / 65536) (one % 65536) 0
 fieldsOf Layout.Singles one two = fieldsWith one two 0
 
--- The command that these words say, if it is of this form.
+-- The form and the numbers in the fields of these words, as they stand on the wire, a goal's bit for bit; and the command that they say.
+abbrev pub partsAs : Form → ℕ → ℕ → Parts
+partsAs form one two =
+    let fields = fieldsOf (rowOf form .layout) one two in
+    partsWith form (fields .first) (fields .second)
+
 abbrev pub commandAs : Form → Bool → ℕ → ℕ → Command
 commandAs form flag one two =
-    let fields = fieldsOf (rowOf form .layout) one two in
-    record { flag = flag; kind = kindOf form (fields .first) (fields .second) }
+    let parts = partsAs form one two in
+    record { flag = flag; kind = kindOf form (parts .first) (parts .second) }
 
--- What a reading says: a code with its parameter, and the command where the code is 0.
+-- What a reading says: what is told of the bytes, and the command where the code is 0.
 pub record Answer : Type 0 where
   pub told : Told
   pub taken : List Command
 
 abbrev pub answerOf : Reading → Answer
-answerOf (Reading.Taken c) = record { told = toldWith 0 0; taken = c ∷ [] }
+answerOf (Reading.Taken c) = record { told = plain 0; taken = c ∷ [] }
 answerOf (Reading.Refused refusal) = record { told = toldOf refusal; taken = [] }
 
--- The answer to a command with this code.
-abbrev pub answerFor : ℕ → Command → Answer
-answerFor code c = record { told = toldWith code (parOf code (firstBadIn c)); taken = cond (eqb code 0) (c ∷ []) [] }
+-- The answer with this code to a form and two numbers, and to the command that they say.
+abbrev pub answerFor : ℕ → Parts → Command → Answer
+answerFor code parts c = record { told = toldFor code parts; taken = cond (eqb code 0) (c ∷ []) [] }
 
 -- Rows 1 to 3.
 abbrev pub reachChecks : List ℕ → List Check
@@ -78,11 +84,11 @@ reachChecks s =
 abbrev pub reachCode : List ℕ → ℕ
 reachCode s = firstOf (reachChecks s)
 
--- Rows 7 to 10, where the form is known. Rows 8 to 10 are asked of the decoded command, whose goal is two singles; that this is 01's rule on the
--- fields as they stand on the wire, goals by their raw bits, is proved in proofs/Goals (`rows-on-wire`, `goal-judged`).
+-- Rows 7 to 10, where the form is known. Rows 8 to 10 are asked of the fields as they stand on the wire, goals by their bits; that they are those of
+-- the command that is made of them is proved in proofs/Goals (`rows-on-wire`).
 abbrev pub formChecks : Form → Bool → ℕ → ℕ → List Check
 formChecks form flag one two =
-    7 when not (eqb (fieldsOf (rowOf form .layout) one two .pad) 0) ∷ argChecks (commandAs form flag one two)
+    7 when not (eqb (fieldsOf (rowOf form .layout) one two .pad) 0) ∷ partChecks flag (partsAs form one two)
 
 -- Rows 5 to 10: the opcode is not in the table, or it is and the rows of its form follow.
 abbrev pub decodeChecks : Found → Bool → ℕ → ℕ → ℕ → List Check
@@ -104,11 +110,17 @@ abbrev pub wholeChecks : List ℕ → ℕ → List Check
 wholeChecks s words =
     4 when sumDiffers s words ∷ decodeChecks (ruleOf (opcodeOf s)) (flagOf s) words (wordAt s 4) (thirdWord s words)
 
--- The command that the bytes say.
+-- The numbers that the bytes say, and the command.
+abbrev pub partsIn : List ℕ → ℕ → Parts
+partsIn s words = partsAs (formIn (ruleOf (opcodeOf s))) (wordAt s 4) (thirdWord s words)
+
 abbrev pub commandIn : List ℕ → ℕ → Command
 commandIn s words = commandAs (formIn (ruleOf (opcodeOf s))) (flagOf s) (wordAt s 4) (thirdWord s words)
 
--- The command at the front of some bytes.
+-- The numbers and the command at the front of some bytes.
+abbrev pub saidParts : List ℕ → Parts
+saidParts s = partsIn s (lengthOf s)
+
 abbrev pub said : List ℕ → Command
 said s = commandIn s (lengthOf s)
 
@@ -122,7 +134,7 @@ readCode s = firstOf (readChecks s)
 -- Reading the command at the front.
 unfoldable pub readOf : List ℕ → Answer
 unfolding readCode
-readOf s = answerFor (readCode s) (commandIn s (lengthOf s))
+readOf s = answerFor (readCode s) (saidParts s) (said s)
 
 -- How far the command at the front reaches: all that is left where codes 1 to 3 end a list, else 4L bytes.
 unfoldable pub spanOf : List ℕ → ℕ

@@ -13,13 +13,13 @@ use Rattle.wire.specs.declared.judging.Told.{Told}
 use Rattle.wire.specs.declared.decoding.Reach.{Reach}
 use Rattle.wire.specs.Codes.{firstOf}
 use Rattle.wire.specs.Table.{ruleOf}
-use Rattle.wire.specs.Judge.{toldWith, toldOf, flagChecks}
-use Rattle.wire.specs.Read.{Answer, answerFor, commandAs, formChecks, decodeChecks, formIn, wholeChecks, commandIn, lengthOf, reachCode}
+use Rattle.wire.specs.Judge.{plain, toldOf, flagChecks}
+use Rattle.wire.specs.Read.{Answer, answerFor, partsAs, commandAs, formChecks, decodeChecks, formIn, wholeChecks, partsIn, commandIn, lengthOf, reachCode}
 use Rattle.wire.specs.Write.{commandBytes, Wrote}
 
 -- `judge_flag`: rows 9 and 10 alone.
 abbrev pub flagRefused : FlagRule → Bool → Told
-flagRefused rule flag = toldWith (firstOf (flagChecks rule flag)) 0
+flagRefused rule flag = plain (firstOf (flagChecks rule flag))
 
 -- `reach_of`: rows 1 to 3, the code, and how many words the command has where it is 0.
 pub record Reached : Type 0 where
@@ -27,28 +27,29 @@ pub record Reached : Type 0 where
   pub words : ℕ
 
 abbrev pub reachOf : Reach → Reached
-reachOf (Reach.Words words) = record { told = toldWith 0 0; words = words }
+reachOf (Reach.Words words) = record { told = plain 0; words = words }
 reachOf (Reach.Ends refusal) = record { told = toldOf refusal; words = 0 }
 
 unfoldable pub reachAt : List ℕ → Reached
-reachAt s = record { told = toldWith (reachCode s) 0; words = cond (eqb (reachCode s) 0) (lengthOf s) 0 }
+reachAt s = record { told = plain (reachCode s); words = cond (eqb (reachCode s) 0) (lengthOf s) 0 }
 
 -- `read_whole`: rows 4 to 10, where a whole command of so many words stands at the front.
 unfoldable pub readWhole : List ℕ → ℕ → Answer
-readWhole s words = answerFor (firstOf (wholeChecks s words)) (commandIn s words)
+readWhole s words = answerFor (firstOf (wholeChecks s words)) (partsIn s words) (commandIn s words)
 
 -- `decode`: rows 5 to 10, from the opcode, the flag, the length and the two words behind the first.
 unfoldable pub decoded : ℕ → Bool → ℕ → ℕ → ℕ → Answer
 decoded opcode flag words one two =
-    answerFor (firstOf (decodeChecks (ruleOf opcode) flag words one two)) (commandAs (formIn (ruleOf opcode)) flag one two)
+    let form = formIn (ruleOf opcode) in
+    answerFor (firstOf (decodeChecks (ruleOf opcode) flag words one two)) (partsAs form one two) (commandAs form flag one two)
 
 -- `decode_form` and `decode_as`: rows 7 to 10, where the form is known and the length is its own (else both answer row 6).
 unfoldable pub decodedAs : Form → Bool → ℕ → ℕ → Answer
-decodedAs form flag one two = answerFor (firstOf (formChecks form flag one two)) (commandAs form flag one two)
+decodedAs form flag one two = answerFor (firstOf (formChecks form flag one two)) (partsAs form one two) (commandAs form flag one two)
 
 -- `write_allowed`: the answer to a command that rows 8 to 10 passed.
 abbrev pub wroteAllowed : Command → List ℕ → Wrote
 wroteAllowed c room =
     cond (hasRoom (commandBytes c) room)
-    (record { told = toldWith 0 0; bytes = length (commandBytes c) })
-    (record { told = toldWith 24 0; bytes = 0 })
+    (record { told = plain 0; bytes = length (commandBytes c) })
+    (record { told = plain 24; bytes = 0 })

@@ -12,7 +12,7 @@ use Rattle.wire.specs.declared.encoding.Writing.{Writing}
 use Rattle.wire.specs.Codes.{Check, _when_, firstOf}
 use Rattle.wire.specs.Table.{rowOf}
 use Rattle.wire.specs.Kind.{partsOf}
-use Rattle.wire.specs.Judge.{toldWith, toldOf, argChecks, firstBadIn, parOf}
+use Rattle.wire.specs.Judge.{plain, toldOf, toldFor, argChecks}
 use Rattle.wire.specs.Read.{sumOf}
 
 -- The flag as a bit.
@@ -53,13 +53,13 @@ unfoldable pub listBytes : List Command → List ℕ
 listBytes [] = []
 listBytes (c ∷ cs) = commandBytes c ++ listBytes cs
 
--- What a writer answers: a code with its parameter, and how many bytes were written.
+-- What a writer answers: what it tells of the command, and how many bytes were written.
 pub record Wrote : Type 0 where
   pub told : Told
   pub bytes : ℕ
 
 abbrev pub wroteOf : Writing → Wrote
-wroteOf (Writing.Written bytes) = record { told = toldWith 0 0; bytes = bytes }
+wroteOf (Writing.Written bytes) = record { told = plain 0; bytes = bytes }
 wroteOf (Writing.Refused refusal) = record { told = toldOf refusal; bytes = 0 }
 
 -- Command writing: 8, then 9 or 10, then 24.
@@ -73,7 +73,7 @@ unfoldable pub wroteAt : Command → List ℕ → Wrote
 unfolding writeCode
 wroteAt c room =
     record {
-      told = toldWith (writeCode c room) (parOf (writeCode c room) (firstBadIn c));
+      told = toldFor (writeCode c room) (partsOf (c .kind));
       bytes = cond (eqb (writeCode c room) 0) (length (commandBytes c)) 0;
     }
 

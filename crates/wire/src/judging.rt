@@ -1,6 +1,6 @@
 // What the wire refuses, and the rules on a decoded command: codes 8, 9 and 10, in that order.
 ghost use mathlib.Core.Path.{_≡_};
-ghost use Rattle.wire.specs.Judge.{toldWith, toldOf, toldJudged, inLimits, firstBad, judgedBy, judged};
+ghost use Rattle.wire.specs.Judge.{strayWith, toldWith, plain, toldOf, toldJudged, inLimits, firstBad, named, judgedBy, judged};
 ghost use Rattle.wire.specs.Steps.{flagRefused};
 use super::kinds::Command;
 use super::kinds::parts_of;
@@ -9,7 +9,16 @@ use super::table::Layout;
 use super::table::Row;
 use super::table::row_of;
 
-// Why a command is refused on the wire. `OutOfRange` names the first bad parameter, 1 or 2.
+// An argument out of range: which one it is, 1 or 2, its value, and the lowest and the highest that are allowed. A goal's are bits. All four are 0
+// where there is none.
+pub struct Stray {
+    pub par: u8,
+    pub value: u32,
+    pub low: u32,
+    pub high: u32,
+}
+
+// Why a command is refused on the wire. `OutOfRange` has the first argument that is.
 pub enum Refusal {
     TooFewBytes,
     LengthOutOfBounds,
@@ -18,16 +27,16 @@ pub enum Refusal {
     UnknownOpcode,
     WrongLength,
     PadNotZero,
-    OutOfRange(u8),
+    OutOfRange(Stray),
     FlagForbidden,
     FlagMissing,
     NoRoom,
 }
 
-// A code and its parameter, as a report has them; code 0 is acceptance.
+// A code, and what was wrong with the number where it is 8; code 0 is acceptance.
 pub struct Told {
     pub code: u8,
-    pub par: u8,
+    pub stray: Stray,
 }
 
 pub enum Judged {
@@ -35,28 +44,46 @@ pub enum Judged {
     Refused(Refusal),
 }
 
-fn told_with(code: u8, par: u8) -> Told
-    ensures { λ r. ⌜ r ≡ toldWith code par ⌝ }
+fn stray_with(par: u8, value: u32, low: u32, high: u32) -> Stray
+    ensures { λ r. ⌜ r ≡ strayWith par value low high ⌝ }
 {
-    Told { code, par }
+    Stray {
+        par,
+        value,
+        low,
+        high,
+    }
 }
 
-// The code and parameter of a refusal.
+fn told_with(code: u8, stray: Stray) -> Told
+    ensures { λ r. ⌜ r ≡ toldWith code stray ⌝ }
+{
+    Told { code, stray }
+}
+
+// A code by itself.
+pub fn plain(code: u8) -> Told
+    ensures { λ r. ⌜ r ≡ plain code ⌝ }
+{
+    told_with(code, stray_with(0, 0, 0, 0))
+}
+
+// The code of a refusal, and what was wrong with the number.
 pub fn told_of(refusal: Refusal) -> Told
     ensures { λ r. ⌜ r ≡ toldOf refusal ⌝ }
 {
     match refusal {
-        Refusal::TooFewBytes => told_with(1, 0),
-        Refusal::LengthOutOfBounds => told_with(2, 0),
-        Refusal::CutOff => told_with(3, 0),
-        Refusal::SumDiffers => told_with(4, 0),
-        Refusal::UnknownOpcode => told_with(5, 0),
-        Refusal::WrongLength => told_with(6, 0),
-        Refusal::PadNotZero => told_with(7, 0),
-        Refusal::OutOfRange(par) => told_with(8, par),
-        Refusal::FlagForbidden => told_with(9, 0),
-        Refusal::FlagMissing => told_with(10, 0),
-        Refusal::NoRoom => told_with(24, 0),
+        Refusal::TooFewBytes => plain(1),
+        Refusal::LengthOutOfBounds => plain(2),
+        Refusal::CutOff => plain(3),
+        Refusal::SumDiffers => plain(4),
+        Refusal::UnknownOpcode => plain(5),
+        Refusal::WrongLength => plain(6),
+        Refusal::PadNotZero => plain(7),
+        Refusal::OutOfRange(stray) => told_with(8, stray),
+        Refusal::FlagForbidden => plain(9),
+        Refusal::FlagMissing => plain(10),
+        Refusal::NoRoom => plain(24),
     }
 }
 
@@ -91,6 +118,17 @@ pub fn first_bad(row: Row, first: u32, second: u32) -> u8
     0
 }
 
+// The argument that a parameter names, with its value and its limits by this row.
+fn named(row: Row, first: u32, second: u32, par: u8) -> Stray
+    ensures { λ r. ⌜ r ≡ named row first second par ⌝ }
+{
+    match par {
+        1 => stray_with(1, first, row.low1, row.high1),
+        2 => stray_with(2, second, row.low2, row.high2),
+        _ => stray_with(0, 0, 0, 0),
+    }
+}
+
 // The flag against its rule: codes 9 and 10.
 fn judge_flag(rule: FlagRule, flag: bool) -> Judged
     ensures { λ r. ⌜ toldJudged r ≡ flagRefused rule flag ⌝ }
@@ -120,7 +158,7 @@ pub fn judge_by(row: Row, flag: bool, first: u32, second: u32) -> Judged
 {
     let bad = first_bad(row, first, second);
     if bad != 0 {
-        return Judged::Refused(Refusal::OutOfRange(bad));
+        return Judged::Refused(Refusal::OutOfRange(named(row, first, second, bad)));
     }
     let rule = row.flags;
     judge_flag(rule, flag)

@@ -1,5 +1,5 @@
 // One command: the table of commands, the decoded form, judging, reading and writing.
-// A refusal of any of these is a `Refusal`, and `told_of` gives the code and parameter that go into a report.
+// A refusal of any of these is a `Refusal`, and `told_of` gives its code and, for code 8, what was wrong with the number.
 mod decoding;
 mod encoding;
 mod judging;
@@ -13,10 +13,12 @@ pub use encoding::Writing;
 pub use encoding::write_command;
 pub use judging::Judged;
 pub use judging::Refusal;
+pub use judging::Stray;
 pub use judging::Told;
 pub use judging::first_bad;
 pub use judging::judge;
 pub use judging::judge_by;
+pub use judging::plain;
 pub use judging::told_of;
 pub use kinds::Command;
 pub use kinds::Kind;

@@ -4,7 +4,7 @@
 use std::collections::VecDeque;
 
 use crate::codes::{
-    code_and_parameter, refuse_if, Refusal, CLOSE_TOO_FULL, CLOSE_TOO_LONG, CLOSE_WITHOUT_ENTRIES,
+    code_and_finding, refuse_if, Refusal, CLOSE_TOO_FULL, CLOSE_TOO_LONG, CLOSE_WITHOUT_ENTRIES,
     MACRO_RUNS, NO_ENTRY_FREE, NO_MACRO_OPEN, OPEN_OF_CLOSED, OPEN_WHILE_OPEN, POWER_OFF,
     TARGET_NOT_BELOW, TARGET_NOT_CLOSED,
 };
@@ -224,7 +224,7 @@ impl Bench {
         if answer.is_ok() {
             self.execute(entry);
         }
-        let (code, _) = code_and_parameter(&answer);
+        let (code, _) = code_and_finding(&answer);
         Handed {
             code,
             command: *entry,

@@ -1,6 +1,9 @@
 //! The numbered answers of the rules, in the order in which they are tried (but
 //! 25 stands behind 15, and 26 between 10 and 11), the refusal that carries one of
-//! them with its parameter byte, and the place in a text or a list where it was found.
+//! them with what was wrong with a number, and the place in a text or a list where it
+//! was found.
+
+use std::fmt;
 
 pub const ACCEPTED: u8 = 0;
 pub const TOO_SHORT: u8 = 1;
@@ -40,23 +43,50 @@ pub fn can_be_shown(code: u8) -> bool {
     matches!(code, ACCEPTED..=POWER_OFF | UNKNOWN_NAME..=GOAL_NOT_SAID)
 }
 
-/// Why something was not taken; the parameter is 0 unless the code is 8.
+/// What was wrong with a number: the first bad argument by its position from 1, the
+/// value found there, and the lowest and highest allowed. Those of a goal are bits. All
+/// four are 0 unless the code is 8.
+#[derive(Clone, Copy, Debug, Default, PartialEq, Eq)]
+pub struct Finding {
+    pub parameter: u8,
+    pub value: u32,
+    pub low: u32,
+    pub high: u32,
+}
+
+/// The four numbers as a transcript has them.
+impl fmt::Display for Finding {
+    fn fmt(&self, line: &mut fmt::Formatter) -> fmt::Result {
+        let Finding {
+            parameter,
+            value,
+            low,
+            high,
+        } = self;
+        write!(line, "{parameter} {value} {low} {high}")
+    }
+}
+
+/// Why something was not taken.
 #[derive(Clone, Copy, Debug, PartialEq, Eq)]
 pub struct Refusal {
     pub code: u8,
-    pub parameter: u8,
+    pub finding: Finding,
 }
 
 impl Refusal {
-    pub const fn plain(code: u8) -> Self {
-        Refusal { code, parameter: 0 }
+    pub fn plain(code: u8) -> Self {
+        Refusal {
+            code,
+            finding: Finding::default(),
+        }
     }
 
-    /// Code 8, naming the first bad argument by its position from 1.
-    pub const fn argument(position: u8) -> Self {
+    /// Code 8.
+    pub fn out_of_range(finding: Finding) -> Self {
         Refusal {
             code: OUT_OF_RANGE,
-            parameter: position,
+            finding,
         }
     }
 }
@@ -93,10 +123,10 @@ pub fn refuse_if(condition: bool, code: u8) -> Result<(), Refusal> {
     }
 }
 
-/// Code and parameter of any answer, acceptance being 0 and 0.
-pub fn code_and_parameter<T>(answer: &Result<T, Refusal>) -> (u8, u8) {
+/// Code and finding of any answer, acceptance being zeros throughout.
+pub fn code_and_finding<T>(answer: &Result<T, Refusal>) -> (u8, Finding) {
     match answer {
-        Ok(_) => (ACCEPTED, 0),
-        Err(refusal) => (refusal.code, refusal.parameter),
+        Ok(_) => (ACCEPTED, Finding::default()),
+        Err(refusal) => (refusal.code, refusal.finding),
     }
 }

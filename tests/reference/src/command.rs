@@ -1,7 +1,7 @@
 //! The table of the fifteen commands, row by row, and a decoded command with
 //! the checks that need no bench: argument ranges (8) and the macro flag (9, 10).
 
-use crate::codes::{refuse_if, Refusal, NEVER_APPENDED, ONLY_APPENDED};
+use crate::codes::{refuse_if, Finding, Refusal, NEVER_APPENDED, ONLY_APPENDED};
 use FlagRule::{Either, NeverAppended, OnlyAppended};
 
 #[derive(Clone, Copy, Debug, PartialEq, Eq)]
@@ -141,6 +141,26 @@ impl Argument {
         }
     }
 
+    /// The lowest and the highest value allowed. (Minus zero is allowed besides, but
+    /// does not count as an end.)
+    pub fn ends(&self) -> [u32; 2] {
+        match self.allowed {
+            Allowed::Range(low, high) => [low, high],
+            Allowed::Goal => [0, LARGEST_GOAL_BITS],
+        }
+    }
+
+    /// Code 8, of a value found in this argument, which has the position from 0.
+    fn refusal(&self, position: usize, value: u32) -> Refusal {
+        let [low, high] = self.ends();
+        Refusal::out_of_range(Finding {
+            parameter: position as u8 + 1,
+            value,
+            low,
+            high,
+        })
+    }
+
     /// The value cut to the field's width by the remainder.
     pub fn cut(&self, value: u32) -> u32 {
         (u64::from(value) % (1 << self.bits)) as u32
@@ -200,8 +220,9 @@ impl Command {
     pub fn judge(&self) -> Result<(), Refusal> {
         let row = self.kind.row();
         for (position, argument) in row.arguments.iter().enumerate() {
-            if !argument.allows(self.arguments[position]) {
-                return Err(Refusal::argument(position as u8 + 1));
+            let value = self.arguments[position];
+            if !argument.allows(value) {
+                return Err(argument.refusal(position, value));
             }
         }
         let rule = row.flag;

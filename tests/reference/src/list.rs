@@ -33,13 +33,17 @@ pub fn listing(pupil: &[u8]) -> String {
 
 /// The heading and one line for each record.
 pub fn report_lines(records: &[Record]) -> String {
-    let mut text = String::from("from no code par\n");
+    let mut text = String::from("from no code par val\n");
     for record in records {
         let from = if record.sender == KIT { "kit" } else { "pupil" };
-        text += &format!(
-            "{from} {} {} {}\n",
-            record.number, record.code, record.parameter
-        );
+        let Record {
+            number,
+            code,
+            parameter,
+            value,
+            ..
+        } = record;
+        text += &format!("{from} {number} {code} {parameter} {value}\n");
     }
     text
 }

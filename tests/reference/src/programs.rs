@@ -4,7 +4,7 @@
 use std::io::{Read, Write};
 
 use crate::bench::Bench;
-use crate::codes::{Placed, OUT_OF_RANGE};
+use crate::codes::{Finding, Placed, OUT_OF_RANGE};
 use crate::list::{kit_list, report_lines};
 use crate::text::{commands_typed, raw_list, text_of};
 use crate::typed::typed_records;
@@ -52,7 +52,13 @@ fn refused(placed: &Placed, what: &str) -> String {
         line += &format!(" {what} {place}");
     }
     if refusal.code == OUT_OF_RANGE {
-        line += &format!(" par {}", refusal.parameter);
+        let Finding {
+            parameter,
+            value,
+            low,
+            high,
+        } = refusal.finding;
+        line += &format!(" par {parameter} val {value} from {low} to {high}");
     }
     line + "\n"
 }

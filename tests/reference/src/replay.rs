@@ -2,7 +2,7 @@
 //! answer out. An item that is cut off changes nothing before it ends the replay.
 
 use crate::bench::{Bench, Handed};
-use crate::codes::{code_and_parameter, Placed, Refusal};
+use crate::codes::{code_and_finding, Placed, Refusal};
 use crate::command::{Command, COMMANDS, TABLE};
 use crate::frame::{Frame, FRAME_BYTES};
 use crate::run::{run_lists, shown, Counts, RECORD_BYTES};
@@ -11,7 +11,7 @@ use crate::typed::run_typed;
 use crate::wire::{read_command, write_command};
 
 pub const LONGEST_SCRIPT: usize = 65_536;
-pub const LARGEST_ROOM: usize = 9_000;
+pub const LARGEST_ROOM: usize = 13_000;
 /// What a room holds before anything is written into it.
 pub const ROOM_FILL: u8 = 0xaa;
 /// Room for a decoded command: the longest of the table just fits.
@@ -133,8 +133,8 @@ impl Replay {
     }
 
     fn command(&mut self, bytes: &[u8]) -> String {
-        let (code, parameter) = code_and_parameter(&self.bench.carry_out_bytes(bytes));
-        format!("command {code} {parameter}\n")
+        let (code, finding) = code_and_finding(&self.bench.carry_out_bytes(bytes));
+        format!("command {code} {finding}\n")
     }
 
     fn status(&self) -> String {
@@ -149,7 +149,7 @@ impl Replay {
         let mut room = script.room()?;
         let (kit, pupil) = (script.long_part()?, script.long_part()?);
         let answer = run_lists(&mut self.bench, kit, pupil, &mut room);
-        let (code, _) = code_and_parameter(&answer);
+        let (code, _) = code_and_finding(&answer);
         let counts = answer.unwrap_or_default();
         Some(report_lines(&format!("run {code}"), counts, &room))
     }
@@ -172,11 +172,11 @@ impl Replay {
         let arguments = [script.word()?, script.word()?];
         let kind = TABLE[usize::from(row) % COMMANDS].kind;
         let command = Command::new(flag % 2 == 1, kind, arguments).through_singles();
-        let (code, parameter) = code_and_parameter(&self.bench.carry_out(&command));
+        let (code, finding) = code_and_finding(&self.bench.carry_out(&command));
         let mut room = [ROOM_FILL; DECODED_ROOM];
         let written = write_command(&command, &mut room);
         let words = written_words(&written, &room);
-        Some(format!("decoded {code} {parameter} {words}\n"))
+        Some(format!("decoded {code} {finding} {words}\n"))
     }
 }
 
@@ -220,11 +220,11 @@ fn rest_line(room: &[u8], written: usize) -> String {
     }
 }
 
-/// Code, place and parameter of any answer, acceptance being three zeros.
+/// Code, place and finding of any answer, acceptance being zeros throughout.
 fn placed_words<T>(answer: &Result<T, Placed>) -> String {
     match answer {
-        Ok(_) => "0 0 0".into(),
-        Err(Placed { place, refusal }) => format!("{} {place} {}", refusal.code, refusal.parameter),
+        Ok(_) => "0 0 0 0 0 0".into(),
+        Err(Placed { place, refusal }) => format!("{} {place} {}", refusal.code, refusal.finding),
     }
 }
 
@@ -272,11 +272,11 @@ fn frame_line(room: usize, bytes: &[u8]) -> String {
 
 fn read_line(room: usize, bytes: &[u8]) -> String {
     match read_command(bytes) {
-        Err(refusal) => format!("read {} {}\n", refusal.code, refusal.parameter),
+        Err(refusal) => format!("read {} {}\n", refusal.code, refusal.finding),
         Ok(command) => {
             let mut room = vec![ROOM_FILL; room];
             let written = write_command(&command, &mut room);
-            format!("read 0 0 {}\n", written_words(&written, &room))
+            format!("read 0 0 0 0 0 {}\n", written_words(&written, &room))
         }
     }
 }

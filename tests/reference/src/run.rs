@@ -2,12 +2,12 @@
 //! each command (codes 20, 21), and the bytes shown for a record.
 
 use crate::bench::Bench;
-use crate::codes::{code_and_parameter, refuse_if, Refusal, LIST_TOO_LONG, REPORT_ROOM_TOO_SMALL};
+use crate::codes::{code_and_finding, refuse_if, Refusal, LIST_TOO_LONG, REPORT_ROOM_TOO_SMALL};
 use crate::wire::extent;
 
 pub const LONGEST_LIST: usize = 4096;
-pub const SMALLEST_REPORT_ROOM: usize = 8192;
-pub const RECORD_BYTES: usize = 8;
+pub const SMALLEST_REPORT_ROOM: usize = 12_288;
+pub const RECORD_BYTES: usize = 12;
 pub const KIT: u8 = 1;
 pub const PUPIL: u8 = 2;
 
@@ -17,6 +17,8 @@ pub struct Record {
     pub code: u8,
     pub parameter: u8,
     pub number: u32,
+    /// What was found where an argument was out of range; otherwise 0.
+    pub value: u32,
 }
 
 /// How many records each sender got.
@@ -27,9 +29,23 @@ pub struct Counts {
 }
 
 impl Record {
-    pub fn bytes(&self) -> [u8; RECORD_BYTES] {
-        let [a, b, c, d] = self.number.to_be_bytes();
-        [self.sender, self.code, self.parameter, 0, a, b, c, d]
+    /// The record of the sender's command of this number, which was answered so.
+    pub fn new(sender: u8, number: u32, answer: &Result<(), Refusal>) -> Self {
+        let (code, finding) = code_and_finding(answer);
+        Record {
+            sender,
+            code,
+            parameter: finding.parameter,
+            number,
+            value: finding.value,
+        }
+    }
+
+    pub fn bytes(&self) -> Vec<u8> {
+        let mut bytes = vec![self.sender, self.code, self.parameter, 0];
+        bytes.extend(self.number.to_be_bytes());
+        bytes.extend(self.value.to_be_bytes());
+        bytes
     }
 }
 
@@ -58,13 +74,7 @@ fn run_one(bench: &mut Bench, sender: u8, list: &[u8], records: &mut Vec<Record>
         let own = records.iter().filter(|record| record.sender == sender);
         let number = own.count() as u32 + 1;
         let answer = bench.carry_out_bytes(&list[start..]);
-        let (code, parameter) = code_and_parameter(&answer);
-        records.push(Record {
-            sender,
-            code,
-            parameter,
-            number,
-        });
+        records.push(Record::new(sender, number, &answer));
     }
 }
 

@@ -2,7 +2,7 @@
 //! 21), whose records carry the numbers of the text's lines.
 
 use crate::bench::Bench;
-use crate::codes::{code_and_parameter, refuse_if, Placed, LIST_TOO_LONG, REPORT_ROOM_TOO_SMALL};
+use crate::codes::{refuse_if, Placed, LIST_TOO_LONG, REPORT_ROOM_TOO_SMALL};
 use crate::run::{records_of, report, Counts, Record, LONGEST_LIST, PUPIL, SMALLEST_REPORT_ROOM};
 use crate::text::{commands_typed, TypedCommand};
 
@@ -11,13 +11,7 @@ pub fn typed_records(bench: &mut Bench, kit: &[u8], commands: &[TypedCommand]) -
     let mut records = records_of(bench, kit, &[]);
     for typed in commands {
         let answer = bench.carry_out(&typed.command);
-        let (code, parameter) = code_and_parameter(&answer);
-        records.push(Record {
-            sender: PUPIL,
-            code,
-            parameter,
-            number: typed.line,
-        });
+        records.push(Record::new(PUPIL, typed.line, &answer));
     }
     records
 }

@@ -2,7 +2,7 @@
 //! copied from the rules, not made by the writer under test.
 
 use reference::bench::Bench;
-use reference::codes::{code_and_parameter, ACCEPTED};
+use reference::codes::{code_and_finding, Refusal, ACCEPTED};
 use reference::command::{goal_is_allowed, Command, Kind};
 use reference::list::listing;
 use reference::wire::{bytes_of, read_command, sealed, unsealed, write_command};
@@ -15,6 +15,12 @@ const BAD_IMAGE: &[u32] = &[0x0150_0003, 0x0005_0000, 0x0155_0003];
 const GOAL: &[u32] = &[0x0153_0004, 0x43ff_c000, 0, 0x42ac_c004];
 const OPEN_3: &[u32] = &[0x7f01_0003, 0x0300_0000, 0x7c01_0003];
 const WAIT_2: &[u32] = &[0x7f04_8003, 0x0002_0000, 0x7f06_8003];
+
+/// Code and parameter of an answer.
+fn code_and_parameter<T>(answer: &Result<T, Refusal>) -> (u8, u8) {
+    let (code, finding) = code_and_finding(answer);
+    (code, finding.parameter)
+}
 
 /// Carries out the words and answers with code and parameter.
 fn send(bench: &mut Bench, words: &[u32]) -> (u8, u8) {
@@ -186,14 +192,14 @@ fn entry_192_is_appended_and_entry_193_is_not() {
 #[test]
 fn the_list_program_prints_the_given_lines() {
     let pupil = bytes_of(&[REGION, BAD_IMAGE, &[0x015a_0002]].concat());
-    let expected = "from no code par\n\
-                    kit 1 0 0\nkit 2 0 0\nkit 3 0 0\nkit 4 0 0\n\
-                    pupil 1 0 0\npupil 2 8 2\npupil 3 1 0\n";
+    let expected = "from no code par val\n\
+                    kit 1 0 0 0\nkit 2 0 0 0\nkit 3 0 0 0\nkit 4 0 0 0\n\
+                    pupil 1 0 0 0\npupil 2 8 2 0\npupil 3 1 0 0\n";
     assert_eq!(listing(&pupil), expected);
 }
 
 #[test]
 fn a_list_of_4097_bytes_is_refused_and_one_of_4096_is_not() {
     assert_eq!(listing(&[0; 4097]), "refused 20\n");
-    assert!(listing(&[0; 4096]).ends_with("kit 4 0 0\npupil 1 2 0\n"));
+    assert!(listing(&[0; 4096]).ends_with("kit 4 0 0 0\npupil 1 2 0 0\n"));
 }

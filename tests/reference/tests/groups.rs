@@ -2,7 +2,7 @@
 //! long a macro is by its waits, and how full a second may be.
 
 use reference::bench::{Bench, Handed};
-use reference::codes::{code_and_parameter, ACCEPTED};
+use reference::codes::{code_and_finding, ACCEPTED};
 use reference::command::{Command, Kind};
 use reference::comparison::rng::Rng;
 
@@ -38,7 +38,7 @@ fn handed(part: Part) -> Handed {
 
 fn execute(bench: &mut Bench, kind: Kind, argument: u32) -> u8 {
     let command = Command::new(false, kind, [argument, 0]);
-    code_and_parameter(&bench.carry_out(&command)).0
+    code_and_finding(&bench.carry_out(&command)).0
 }
 
 /// Opens the macro, appends the entries, and answers with the code of CLOSE.

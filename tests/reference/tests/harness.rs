@@ -41,7 +41,7 @@ fn fills_the_pool(script: &[Item]) -> bool {
 fn random_macros_lie_on_both_sides_of_their_limits() {
     let mut fullest = BTreeSet::new();
     let mut lengths = BTreeSet::new();
-    for index in 0..10 {
+    for index in 0..20 {
         for outline in outlines(&random::script(Rng::stream(7, index))) {
             fullest.insert(outline.fullest);
             lengths.insert((outline.length(), outline.last > 0));
@@ -140,6 +140,44 @@ fn random_scripts_ask_for_images_with_power_on_and_off() {
     }
 }
 
+/// The values told with code 8, by the sort of line and the parameter.
+type Told = BTreeMap<(String, u8), Vec<u32>>;
+
+fn tell_of(script: &[Item], told: &mut Told) {
+    for line in transcript(&script.concat()).lines() {
+        let words: Vec<&str> = line.split(' ').collect();
+        let (parameter, value) = match words[..] {
+            ["command" | "read" | "decoded", "8", parameter, value, ..] => {
+                (parameter, value.parse())
+            }
+            ["assembled" | "listed" | "typed", "8", _, parameter, value, ..] => {
+                (parameter, value.parse())
+            }
+            ["record", digits] if &digits[2..4] == "08" => {
+                (&digits[5..6], u32::from_str_radix(&digits[16..], 16))
+            }
+            _ => continue,
+        };
+        let sort = (words[0].into(), parameter.parse().expect("1 or 2"));
+        told.entry(sort).or_default().push(value.expect("a number"));
+    }
+}
+
+#[test]
+fn random_scripts_tell_of_numbers_in_every_sort_of_line() {
+    let mut told = Told::new();
+    for index in 0..20 {
+        tell_of(&random::script(Rng::stream(7, index)), &mut told);
+    }
+    // Seven sorts of lines, each with both parameters.
+    assert_eq!(told.len(), 14, "{:?}", told.keys());
+    for (sort, values) in told {
+        assert!(values.len() > 30, "{sort:?} {}", values.len());
+        // Goals among them, as bits.
+        assert!(values.iter().any(|value| *value > 99_999), "{sort:?}");
+    }
+}
+
 #[test]
 fn one_fixed_script_is_too_long_and_nineteen_are_bad() {
     let transcripts: Vec<String> = fixed::scripts()
@@ -173,9 +211,10 @@ fn shrinking_keeps_the_items_that_matter() {
 #[test]
 fn codes_are_counted_wherever_a_line_shows_one() {
     let mut tally = Tally::default();
-    tally.add("command 5 0\nrecord 0213000000000001\nrun 20 0 0\nread 0 0 24\n");
-    tally.add("frame 0 24\nframe 22\ndecoded 11 0 9\npassed 7\nstatus 27\nsecond 0 0\n");
-    tally.add("assembled 30 2 0\nlisted 33 1 0\ntyped 31 1 0 0 0\nline 6162\n");
+    tally.add("command 5 0 0 0 0\nrecord 021300000000000100000000\nrun 20 0 0\n");
+    tally.add("read 0 0 0 0 0 24\ndecoded 11 0 0 0 0 9\n");
+    tally.add("frame 0 24\nframe 22\npassed 7\nstatus 27\nsecond 0 0\n");
+    tally.add("assembled 30 2 0 0 0 0\nlisted 33 1 0 0 0 0\ntyped 31 1 0 0 0 0 0 0\nline 6162\n");
     let missing = [
         1, 2, 3, 4, 6, 7, 8, 10, 12, 13, 14, 15, 16, 17, 18, 21, 23, 25, 26, 32,
     ];
@@ -183,11 +222,11 @@ fn codes_are_counted_wherever_a_line_shows_one() {
     assert_eq!(tally.missing(), [&[0], &missing[..]].concat());
     tally.add("second 0 2\nhanded 0 tlm_flush\nhanded 26 img_image 1 1\n");
     assert_eq!(tally.missing(), missing);
-    tally.add("command 26 0\n");
+    tally.add("command 26 0 0 0 0\n");
     let missing: Vec<u8> = missing.into_iter().filter(|code| *code != 26).collect();
     assert_eq!(tally.missing(), missing);
     let mut answers_only = Tally::default();
-    answers_only.add("command 26 0\n");
+    answers_only.add("command 26 0 0 0 0\n");
     assert!(answers_only.missing().contains(&26));
     assert_eq!(grouped(1_234_567), "1,234,567");
 }

@@ -2,7 +2,7 @@
 //! order, what a macro's second shows of them, and what goes on in the dark.
 
 use reference::bench::{Bench, Handed, Series};
-use reference::codes::code_and_parameter;
+use reference::codes::{code_and_finding, Refusal};
 use reference::command::{Command, Kind, TABLE};
 use reference::comparison::items::{
     append, command, decoded, now, passed, raw, run, second, typed,
@@ -33,6 +33,12 @@ fn wait(seconds: u32) -> Entry {
 
 fn start(number: u32) -> Entry {
     (Kind::Run, [number, 0])
+}
+
+/// Code and parameter of an answer.
+fn code_and_parameter<T>(answer: &Result<T, Refusal>) -> (u8, u8) {
+    let (code, finding) = code_and_finding(answer);
+    (code, finding.parameter)
 }
 
 /// Code and parameter of one command; a refused one must change nothing.
@@ -499,20 +505,20 @@ fn records_of_a_typed_run() {
     let codes: Vec<(u32, u8)> = records.iter().map(|it| (it.number, it.code)).collect();
     let pupil = [(1, 0), (3, 26), (5, 26), (6, 0), (7, 11), (8, 0), (9, 0)];
     assert_eq!(codes, [&[(1, 26)], &pupil[..]].concat());
-    assert!(records.iter().all(|it| it.parameter == 0));
+    assert!(records.iter().all(|it| it.parameter == 0 && it.value == 0));
 }
 
 #[test]
 fn the_programs_show_26_in_their_reports_only() {
-    let expected = "from no code par\nkit 1 0 0\nkit 2 0 0\nkit 3 0 0\nkit 4 0 0\n\
-                    pupil 1 0 0\npupil 2 0 0\npupil 3 26 0\npupil 4 26 0\n\
-                    pupil 5 0 0\npupil 6 8 2\npupil 7 0 0\npupil 8 0 0\n";
+    let expected = "from no code par val\nkit 1 0 0 0\nkit 2 0 0 0\nkit 3 0 0 0\nkit 4 0 0 0\n\
+                    pupil 1 0 0 0\npupil 2 0 0 0\npupil 3 26 0 0\npupil 4 26 0 0\n\
+                    pupil 5 0 0 0\npupil 6 8 2 0\npupil 7 0 0 0\npupil 8 0 0 0\n";
     assert_eq!(listing(&switched_list()), expected);
     let streams = typed_program(TEXT.as_bytes());
     let report = String::from_utf8_lossy(&streams.output).into_owned();
     assert!(report.ends_with(
-        "pupil 1 0 0\npupil 3 26 0\npupil 5 26 0\npupil 6 0 0\n\
-         pupil 7 11 0\npupil 8 0 0\npupil 9 0 0\n"
+        "pupil 1 0 0 0\npupil 3 26 0 0\npupil 5 26 0 0\npupil 6 0 0 0\n\
+         pupil 7 11 0 0\npupil 8 0 0 0\npupil 9 0 0 0\n"
     ));
     assert!(assembler(TEXT.as_bytes()).errors.is_empty());
 }
@@ -534,16 +540,16 @@ fn what_replay_prints() {
         now(Kind::Run, 4),
         passed(3),
         now(Kind::ImgPwr, 0),
-        run(8192, &image, &[]),
-        typed(8192, &[], b"#\nimg_track 7 1"),
+        run(12_288, &image, &[]),
+        typed(12_288, &[], b"#\nimg_track 7 1"),
     ];
-    let expected = "command 26 0\ndecoded 26 0 0 011800030001ffff0119fffc\n".to_owned()
-        + &"command 0 0\n".repeat(6)
+    let expected = "command 26 0 0 0 0\ndecoded 26 0 0 0 0 0 011800030001ffff0119fffc\n".to_owned()
+        + &"command 0 0 0 0 0\n".repeat(6)
         + "second 0 3\nhanded 26 img_image 65535 2\nhanded 0 img_pwr 1\n\
            handed 0 img_track 1 3\n"
-        + &"command 0 0\n".repeat(2)
-        + "passed 3\ncommand 0 0\n\
-           run 0 1 0\nrecord 011a000000000001\nrest same\n\
-           typed 0 0 0 0 1\nrecord 021a000000000002\nrest same\n";
+        + &"command 0 0 0 0 0\n".repeat(2)
+        + "passed 3\ncommand 0 0 0 0 0\n\
+           run 0 1 0\nrecord 011a00000000000100000000\nrest same\n\
+           typed 0 0 0 0 0 0 0 1\nrecord 021a00000000000200000000\nrest same\n";
     assert_eq!(transcript(&items.concat()), expected);
 }

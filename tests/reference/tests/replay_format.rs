@@ -18,7 +18,8 @@ fn answer(items: &[Vec<u8>]) -> String {
 fn a_command_a_second_and_a_status() {
     let flush = raw(false, Kind::TlmFlush, [0; 2]);
     let items = [status(), command(&flush), second(), command(&[]), fresh()];
-    let expected = format!("status {FRESH_STATUS}\ncommand 0 0\nsecond 0 0\ncommand 1 0\n");
+    let expected =
+        format!("status {FRESH_STATUS}\ncommand 0 0 0 0 0\nsecond 0 0\ncommand 1 0 0 0 0\n");
     assert_eq!(answer(&items), expected);
 }
 
@@ -40,11 +41,11 @@ fn what_a_macro_hands_over() {
         now(Kind::Run, 4),
         passed(9),
     ];
-    let expected = "command 0 0\n".repeat(7)
+    let expected = "command 0 0 0 0 0\n".repeat(7)
         + "second 0 1\nhanded 0 tlm_flush\nsecond 0 0\n\
            status 000000010000000100000000000000000000000000000000000104ff00011001\n\
            second 0 2\nhanded 0 trk_goal 1140834304 2147483648\nhanded 0 img_pwr 1\n\
-           command 0 0\npassed 3\n";
+           command 0 0 0 0 0\npassed 3\n";
     assert_eq!(answer(&items), expected);
 }
 
@@ -52,8 +53,13 @@ fn what_a_macro_hands_over() {
 fn a_run_of_two_lists() {
     let flush = raw(false, Kind::TlmFlush, [0; 2]);
     let bad = raw(false, Kind::ImgImage, [5, 0]);
-    let items = [run(8192, &flush, &bad), run(8191, &flush, &bad), status()];
-    let expected = "run 0 1 1\nrecord 0100000000000001\nrecord 0208020000000001\nrest same\n\
+    let items = [
+        run(12_288, &flush, &bad),
+        run(12_287, &flush, &bad),
+        status(),
+    ];
+    let expected = "run 0 1 1\nrecord 010000000000000100000000\n\
+                    record 020802000000000100000000\nrest same\n\
                     run 21 0 0\nrest same\n\
                     status 0000000100000001000000000000000000000000000000000001ffff00000000\n";
     assert_eq!(answer(&items), expected);
@@ -89,7 +95,7 @@ fn a_frame_read_and_written() {
 fn a_command_read_and_written() {
     let wait = raw(true, Kind::Wait, [2, 0]);
     let items = [read(12, &wait), read(11, &wait), read(12, &wait[..11])];
-    let expected = "read 0 0 0 7f048003000200007f068003\nread 0 0 24\nread 3 0\n";
+    let expected = "read 0 0 0 0 0 0 7f048003000200007f068003\nread 0 0 0 0 0 24\nread 3 0 0 0 0\n";
     assert_eq!(answer(&items), expected);
 }
 
@@ -101,8 +107,9 @@ fn a_decoded_command() {
         decoded(1, 12, [600, 0]),
         decoded(1, 10, [0, 0]),
     ];
-    let expected = "decoded 0 0 0 011400030100000000140003\ndecoded 8 2 8\n\
-                    decoded 11 0 0 7f048003025800007d5c8003\ndecoded 9 0 9\n";
+    let expected = "decoded 0 0 0 0 0 0 011400030100000000140003\n\
+                    decoded 8 2 2143289344 0 1149239295 8\n\
+                    decoded 11 0 0 0 0 0 7f048003025800007d5c8003\ndecoded 9 0 0 0 0 9\n";
     assert_eq!(answer(&items), expected);
 }
 
@@ -114,10 +121,10 @@ fn a_text_assembled() {
         assemble(9, b"\nrun 8"),
         assemble(9, b"\n"),
     ];
-    let expected = "assembled 0 0 0 7f0500027f050002\nrest same\n\
-                    assembled 24 0 0\nrest same\n\
-                    assembled 8 2 1\nrest same\n\
-                    assembled 0 0 0\nrest same\n";
+    let expected = "assembled 0 0 0 0 0 0 7f0500027f050002\nrest same\n\
+                    assembled 24 0 0 0 0 0\nrest same\n\
+                    assembled 8 2 1 8 0 7\nrest same\n\
+                    assembled 0 0 0 0 0 0\nrest same\n";
     assert_eq!(answer(&items), expected);
 }
 
@@ -133,11 +140,11 @@ fn a_list_as_text() {
         list_text(0, &[&flush[..], &bad].concat()),
         list_text(0, &[]),
     ];
-    let expected = "listed 0 0 0 746c6d5f666c7573680a\nrest same\n\
-                    listed 24 0 0\nrest same\n\
-                    listed 33 2 0\nrest same\n\
-                    listed 8 2 2\nrest same\n\
-                    listed 0 0 0\nrest same\n";
+    let expected = "listed 0 0 0 0 0 0 746c6d5f666c7573680a\nrest same\n\
+                    listed 24 0 0 0 0 0\nrest same\n\
+                    listed 33 2 0 0 0 0\nrest same\n\
+                    listed 8 2 2 0 1 65535\nrest same\n\
+                    listed 0 0 0 0 0 0\nrest same\n";
     assert_eq!(answer(&items), expected);
 }
 
@@ -145,14 +152,16 @@ fn a_list_as_text() {
 fn a_typed_run() {
     let flush = raw(false, Kind::TlmFlush, [0; 2]);
     let items = [
-        typed(8192, &flush, b"\ntlm_flush\n#\nclose\n"),
-        typed(8192, &flush, b"stop\nimg_image 5 0\n"),
-        typed(8191, &flush, b"stop\n"),
+        typed(12_288, &flush, b"\ntlm_flush\n#\nclose\n"),
+        typed(12_288, &flush, b"stop\nimg_image 5 0\n"),
+        typed(12_287, &flush, b"stop\n"),
         status(),
     ];
-    let expected = "typed 0 0 0 1 2\nrecord 0100000000000001\nrecord 0200000000000002\n\
-                    record 020b000000000004\nrest same\n\
-                    typed 8 2 2 0 0\nrest same\ntyped 21 0 0 0 0\nrest same\n\
+    let expected = "typed 0 0 0 0 0 0 1 2\n\
+                    record 010000000000000100000000\nrecord 020000000000000200000000\n\
+                    record 020b00000000000400000000\nrest same\n\
+                    typed 8 2 2 0 1 65535 0 0\nrest same\n\
+                    typed 21 0 0 0 0 0 0 0\nrest same\n\
                     status 0000000100000001000000000000000000000000000000000002ffff00000000\n";
     assert_eq!(answer(&items), expected);
 }

@@ -3,7 +3,7 @@
 //! are touched by appends to another.
 
 use reference::bench::Bench;
-use reference::codes::code_and_parameter;
+use reference::codes::code_and_finding;
 use reference::command::{Command, Kind};
 use reference::run::{records_of, Record, KIT, PUPIL};
 use reference::text::commands_typed;
@@ -11,7 +11,7 @@ use reference::typed::typed_records;
 use reference::wire::{sealed, unsealed};
 
 fn code(bench: &mut Bench, appended: bool, kind: Kind, arguments: [u32; 2]) -> u8 {
-    code_and_parameter(&bench.carry_out(&Command::new(appended, kind, arguments))).0
+    code_and_finding(&bench.carry_out(&Command::new(appended, kind, arguments))).0
 }
 
 fn execute(bench: &mut Bench, kind: Kind, argument: u32) -> u8 {

@@ -2,7 +2,7 @@
 //! order in which they stand there.
 
 use reference::bench::Bench;
-use reference::codes::{code_and_parameter, Refusal};
+use reference::codes::{code_and_finding, Finding, Refusal};
 use reference::command::{Command, Kind};
 use reference::run::{records_of, shown, Record, KIT, PUPIL};
 use reference::wire::{bytes_of, extent, read_command, sealed, unsealed};
@@ -15,6 +15,7 @@ fn record(sender: u8, code: u8, number: u32) -> Record {
         code,
         parameter: 0,
         number,
+        value: 0,
     }
 }
 
@@ -69,10 +70,16 @@ fn no_not_a_number_is_a_goal() {
     for bits in [0x7fc0_0000, 0x7f80_0001, 0xffc0_0000, 0xffff_ffff] {
         for (arguments, position) in [([bits, 0], 1), ([0, bits], 2), ([bits; 2], 1)] {
             let goal = Command::new(false, Kind::TrkGoal, arguments);
-            assert_eq!(goal.judge(), Err(Refusal::argument(position)));
+            let finding = Finding {
+                parameter: position,
+                value: bits,
+                low: 0,
+                high: 0x447f_ffff,
+            };
+            assert_eq!(goal.judge(), Err(Refusal::out_of_range(finding)));
             let words = [0x0153_0004, arguments[0], arguments[1]];
             let read = read_command(&sealed(&words));
-            assert_eq!(code_and_parameter(&read), (8, position));
+            assert_eq!(code_and_finding(&read), (8, finding));
         }
     }
 }

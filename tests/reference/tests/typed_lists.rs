@@ -20,7 +20,7 @@ type Words = (u8, u32, u8);
 fn words<T>(answer: Result<T, Placed>) -> Words {
     match answer {
         Ok(_) => (0, 0, 0),
-        Err(Placed { place, refusal }) => (refusal.code, place, refusal.parameter),
+        Err(Placed { place, refusal }) => (refusal.code, place, refusal.finding.parameter),
     }
 }
 
@@ -305,8 +305,8 @@ fn a_typed_run_tries_20_then_the_lines_then_20_then_21() {
         (&[], &long_text, 0, (20, 0, 0)),
         (&[], &bad, 0, (30, 514, 0)),
         (&[], &long_list, 0, (20, 0, 0)),
-        (&[], "tlm_flush", 8191, (21, 0, 0)),
-        (&[], "tlm_flush", 8192, (0, 0, 0)),
+        (&[], "tlm_flush", 12_287, (21, 0, 0)),
+        (&[], "tlm_flush", 12_288, (0, 0, 0)),
     ];
     for (kit, text, size, expected) in cases {
         let (mut bench, mut room) = (Bench::default(), vec![FILL; size]);
@@ -321,13 +321,13 @@ fn a_typed_run_tries_20_then_the_lines_then_20_then_21() {
 
 #[test]
 fn the_pupils_records_carry_the_texts_line_numbers() {
-    let (mut bench, mut room) = (Bench::default(), [FILL; 8192]);
+    let (mut bench, mut room) = (Bench::default(), [FILL; 12_288]);
     let kit = bytes_of(&[FLUSH, FLUSH].concat());
     let text = b"\n# one\nopen 1\n\n+tlm_flush\nrun 1";
     let answer = run_typed(&mut bench, &kit, text, &mut room);
     assert_eq!(answer, Ok(Counts { kit: 2, pupil: 3 }));
-    let lines: Vec<[u8; 4]> = room[..40]
-        .chunks(8)
+    let lines: Vec<[u8; 4]> = room[..60]
+        .chunks(12)
         .map(|it| [it[0], it[1], it[2], it[7]])
         .collect();
     let expected = [
@@ -338,7 +338,7 @@ fn the_pupils_records_carry_the_texts_line_numbers() {
         [2, 18, 0, 6],
     ];
     assert_eq!(lines, expected);
-    assert!(room[40..].iter().all(|byte| *byte == FILL));
+    assert!(room[60..].iter().all(|byte| *byte == FILL));
 }
 
 #[test]
@@ -348,14 +348,17 @@ fn the_typed_program_reports_or_says_why_not() {
         assert!(streams.errors.is_empty());
         String::from_utf8_lossy(&streams.output).into_owned()
     };
-    let kit = "from no code par\nkit 1 0 0\nkit 2 0 0\nkit 3 0 0\nkit 4 0 0\n";
+    let kit = "from no code par val\nkit 1 0 0 0\nkit 2 0 0 0\nkit 3 0 0 0\nkit 4 0 0 0\n";
     assert_eq!(said(""), kit);
     assert_eq!(
         said("\nstop\n\nclose"),
-        format!("{kit}pupil 2 0 0\npupil 4 11 0\n")
+        format!("{kit}pupil 2 0 0 0\npupil 4 11 0 0\n")
     );
     assert_eq!(said("\nstops"), "refused 30 line 2\n");
-    assert_eq!(said("img_region 0 1024"), "refused 8 line 1 par 2\n");
+    assert_eq!(
+        said("img_region 0 1024"),
+        "refused 8 line 1 par 2 val 1024 from 0 to 1023\n"
+    );
     assert_eq!(said(&"stop\n".repeat(513)), "refused 20\n");
 }
 
@@ -367,14 +370,17 @@ fn the_other_programs_write_a_refusal_to_standard_error() {
     };
     assert_eq!(assembler(b"stop\n").output, bytes_of(&STOP));
     assert_eq!(assembler(b"stop\n").errors, b"");
-    assert_eq!(errors(assembler(b"\nrun 9")), "refused 8 line 2 par 1\n");
+    assert_eq!(
+        errors(assembler(b"\nrun 9")),
+        "refused 8 line 2 par 1 val 9 from 0 to 7\n"
+    );
     assert_eq!(errors(assembler(&[b'#'; LONGEST_TEXT + 1])), "refused 20\n");
     assert_eq!(lister(&bytes_of(&STOP)).output, b"stop\n");
     assert_eq!(lister(&bytes_of(&STOP)).errors, b"");
     assert_eq!(errors(lister(&goal(1, 0))), "refused 33 number 1\n");
     assert_eq!(
         errors(lister(&goal(0, u32::MAX))),
-        "refused 8 number 1 par 2\n"
+        "refused 8 number 1 par 2 val 4294967295 from 0 to 1149239295\n"
     );
     assert_eq!(errors(lister(&[0; LONGEST_LIST + 1])), "refused 20\n");
 }

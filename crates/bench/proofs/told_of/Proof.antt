@@ -1,4 +1,4 @@
--- `bench::told_of` meets its contract: in each arm the verdict is known.
+-- `bench::told_of` meets its contract: in each arm the verdict is known, and with it what is told.
 use borrow.Author.Needs.{needs}
 use Rattle.bench.proofs.told_of.Statement.{statement}
 use Rattle.bench.proofs.told_of.Tie as tie
@@ -6,8 +6,14 @@ use Rattle.bench.proofs.told_of.Tie as tie
 enum-told : tie.Need-enum-told
 enum-told c = search needs
 
+plain-requires : tie.Need-plain-requires
+plain-requires c κs = search needs
+
 enum-told-2 : tie.Need-enum-told-2
 enum-told-2 c = search needs
+
+plain-requires-2 : tie.Need-plain-requires-2
+plain-requires-2 c κs = search needs
 
 enum-known-verdict : tie.Need-enum-known-verdict
 enum-known-verdict c = search needs
@@ -18,38 +24,48 @@ told-of-requires c κs = search needs
 enum-told-3 : tie.Need-enum-told-3
 enum-told-3 c = search needs
 
+plain-requires-3 : tie.Need-plain-requires-3
+plain-requires-3 c κs = search needs
+
 enum-known-verdict-2 : tie.Need-enum-known-verdict-2
 enum-known-verdict-2 c = search needs
 
 code-of-requires : tie.Need-code-of-requires
 code-of-requires c κs = search needs
 
+plain-requires-4 : tie.Need-plain-requires-4
+plain-requires-4 c κs = search needs
+
 returns : tie.Need-returns
-returns c = rw (c .enum-told .given .1)
+returns c = rw (c .before .enum-told .given .1) (c .plain .ensures)
 
 returns-2 : tie.Need-returns-2
-returns-2 c = rw (c .enum-told2 .given .1)
+returns-2 c = rw (c .before .enum-told2 .given .1) (c .plain2 .ensures)
 
 returns-3 : tie.Need-returns-3
 returns-3 c = search needs
 
 returns-4 : tie.Need-returns-4
-returns-4 c = rw (c .enum-told3 .given .1)
+returns-4 c = rw (c .before .enum-told3 .given .1) (c .plain3 .ensures)
 
 returns-5 : tie.Need-returns-5
-returns-5 c = rw (c .code-of .ensures, c .before .before .verdict2 .given .1)
+returns-5 c = rw (c .before .before .before .verdict2 .given .1, ← c .before .code-of .ensures) (c .plain4 .ensures)
 
 pub told-of-spec : {M : Type 1} → statement M
 told-of-spec =
     tie.close
     (tie.spec
     enum-told
+    plain-requires
     enum-told-2
+    plain-requires-2
     enum-known-verdict
     told-of-requires
     enum-told-3
+    plain-requires-3
     enum-known-verdict-2
     code-of-requires
+    plain-requires-4
     returns
     returns-2
     returns-3

@@ -4,8 +4,8 @@ ghost use Prim.Native.Nat.{_*_, _≤_};
 ghost use mathlib.Core.Path.{_≡_};
 ghost use lib.ListN.{length};
 ghost use Rattle.words.specs.BigEndian.{written};
-ghost use Rattle.wire.specs.Judge.{toldWith};
 ghost use Rattle.walk.specs.Walk.{rests};
+ghost use Rattle.report.specs.Record.{recordLength};
 ghost use Rattle.text.specs.Findings.{finding, nothing, firstFound};
 ghost use Rattle.text.specs.Assemble.{bytesIn, textFindings};
 ghost use Rattle.bench.specs.Typed.{typedList, begunFinding, typedRanOf, typedOf, typedRoom};
@@ -15,11 +15,10 @@ use super::super::Works;
 use super::super::bench_of;
 use super::super::deciding::Decision;
 use super::super::deciding::permitted;
-use super::super::deciding::told_by;
+use super::super::deciding::put_decided;
 use super::super::survey;
 use super::super::take_effect;
 use super::Part;
-use super::ROOM;
 use super::run_list;
 use text::Fault;
 use text::Finding;
@@ -43,37 +42,29 @@ pub struct TypedRan {
     pub pupil: u32,
 }
 
-// What is found of the whole, and of no line.
-fn of_whole(code: u8) -> Finding
-    ensures { λ r. ⌜ r ≡ finding (toldWith code 0) 0 ⌝ }
-{
-    let told = Told { code, par: 0 };
-    Finding { told, number: 0 }
-}
-
 fn of_line(number: u32, told: Told) -> Finding
     ensures { λ r. ⌜ r ≡ finding told number ⌝ }
 {
     Finding { told, number }
 }
 
-// The code, parameter and line of an answer.
+// What is told of an answer, and its line.
 pub fn finding_of(begun: TypedBegun) -> Finding
     ensures { λ r. ⌜ r ≡ begunFinding begun ⌝ }
 {
     match begun {
-        TypedBegun::Done => of_whole(0),
-        TypedBegun::TooLong => of_whole(20),
+        TypedBegun::Done => text::of_whole(0),
+        TypedBegun::TooLong => text::of_whole(20),
         TypedBegun::BadLine(number, fault) => of_line(number, text::told_of(fault)),
-        TypedBegun::RoomTooSmall => of_whole(21),
-        TypedBegun::Unsound => of_whole(27),
+        TypedBegun::RoomTooSmall => text::of_whole(21),
+        TypedBegun::Unsound => text::of_whole(27),
     }
 }
 
 // Carries out a text that was judged good, line by line, on a lent pool, and puts the records of its commands into the front of a room. Codes 1 to 10
 // passed when the text was judged, so that no line is bad here and the tally alone decides.
 fn run_lines(works: Works, pool: &mut [u32; 576], text: &[u8], room: &mut [u8]) -> Part
-    requires { ⌜ (firstFound (textFindings (now text)) ≡ nothing) × (length (rests (bytesIn (now text))) * 8 ≤ length (now room)) ⌝ }
+    requires { ⌜ (firstFound (textFindings (now text)) ≡ nothing) × (length (rests (bytesIn (now text))) * recordLength ≤ length (now room)) ⌝ }
     requires { ⌜ AtWork works (now pool) ⌝ }
     ensures { λ r. ⌜ benchOf (r .works) (now (pool .exit)) ≡ typedList (benchOf works (now (pool .entry))) (now (text .entry)) .bench ⌝ }
     ensures { λ r. ⌜ r .count ≡ length (rests (bytesIn (now (text .entry)))) ⌝ }
@@ -92,10 +83,9 @@ fn run_lines(works: Works, pool: &mut [u32; 576], text: &[u8], room: &mut [u8]) 
             Line::Bad(_) => continue,
             Line::Typed(command) => {
                 let decision = permitted(works.camera.power, works.tally, command);
-                let told = told_by(decision);
                 let end = (count as usize) * report::RECORD;
                 count += 1;
-                report::put_record(&mut room[end..], walk::PUPIL, told.code, told.par, number);
+                put_decided(&mut room[end..], walk::PUPIL, decision, number);
                 match decision {
                     Decision::Refused(_) => continue,
                     Decision::Accepted(command) => {
@@ -114,7 +104,7 @@ fn run_judged(bench: Bench, kit: &[u8], text: &[u8], room: &mut [u8]) -> TypedRa
     ensures { λ r. ⌜ typedRanOf r ≡ typedOf bench (now (kit .entry)) (now (text .entry)) (now (room .entry)) ⌝ }
     ensures { λ r. ⌜ now (room .exit) ≡ typedRoom bench (now (kit .entry)) (now (text .entry)) (now (room .entry)) ⌝ }
 {
-    if room.len() < ROOM {
+    if room.len() < report::ROOM {
         return refused(bench, TypedBegun::RoomTooSmall);
     }
     let store = bench.store;

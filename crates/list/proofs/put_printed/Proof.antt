@@ -6,6 +6,7 @@ use native.Mathlib.Omega.{arith}
 use lib.ListN.{length, take}
 use lib.Seq.{length-take-le}
 use borrow.Author.Needs.{needs}
+use Rattle.report.specs.Record.{recordLength, reportRoom}
 use Rattle.bench.specs.declared.Bench.{Bench}
 use Rattle.bench.specs.Run.{begunCode, runOf}
 use Rattle.listing.specs.declared.refusals.Numbered.{Numbered}
@@ -33,7 +34,7 @@ pupil c = start c .args .pupil .now
 abbrev room : tie.After-code-of → List ℕ
 room c = c .before .before .before .before .before .before .report-room .result
 
-room-long : (c : tie.After-code-of) → length (room c) ≡ 8192
+room-long : (c : tie.After-code-of) → length (room c) ≡ reportRoom
 room-long c = sym (c .before .before .before .before .before .before .report-room .ensures)
 
 coded : (c : tie.After-code-of) → c .code-of .result ≡ runOf (bench c) (kit c) (pupil c) (room c) .code
@@ -49,14 +50,14 @@ refuses c refused =
 abbrev records : tie.After-code-of → List ℕ
 records c =
     let run = c .before .before .run in
-    take ((run .result .kit + run .result .pupil) * 8) (run .last .1 .1 .1 .0)
+    take ((run .result .kit + run .result .pupil) * recordLength) (run .last .1 .1 .1 .0)
 
 done : (c : tie.Else1) → begunCode (c .before .before .before .run .result .begun) ≡ 0
 done c = sym (c .before .code-of .ensures) ∙ c .if1 .left
 
 within : (c : tie.Else1)
     → let run = c .before .before .before .run in
-    (run .result .kit + run .result .pupil) * 8 ≤ length (run .last .1 .1 .1 .0)
+    (run .result .kit + run .result .pupil) * recordLength ≤ length (run .last .1 .1 .1 .0)
 within c =
     let at = c .before in
     let run = at .before .before .run in
@@ -69,7 +70,7 @@ within c =
 
 taken : (c : tie.Else1)
     → let run = c .before .before .before .run in
-    length (records (c .before)) ≡ (run .result .kit + run .result .pupil) * 8
+    length (records (c .before)) ≡ (run .result .kit + run .result .pupil) * recordLength
 taken c = length-take-le _ _ (within c)
 
 report : (c : tie.Else1) → reportText (records (c .before)) ≡ printed (pupil (c .before))
@@ -79,7 +80,7 @@ report c =
     let fresh = at .before .before .before .before .before .fresh .ensures in
     let own = at .before .before .before .before .before .before .before .kit-list .ensures in
     let front = records-front (bench at) (kit at) (pupil at) (room at) (run .result) (run .ensures .0) (done c) in
-    ap reportText (ap (take ((run .result .kit + run .result .pupil) * 8)) (run .ensures .1) ∙ front)
+    ap reportText (ap (take ((run .result .kit + run .result .pupil) * recordLength)) (run .ensures .1) ∙ front)
     ∙ prints-report (bench at) (kit at) (pupil at) (room at) fresh own (room-long at) (sym (coded at) ∙ c .if1 .left)
 
 kit-list-requires : tie.Need-kit-list-requires
@@ -103,8 +104,8 @@ run-requires c κs = search needs
 code-of-requires : tie.Need-code-of-requires
 code-of-requires c κs = search needs
 
-found-with-requires : tie.Need-found-with-requires
-found-with-requires c κs = search needs
+of-whole-requires : tie.Need-of-whole-requires
+of-whole-requires c κs = search needs
 
 put-refusal-requires : tie.Need-put-refusal-requires
 put-refusal-requires c κs = search needs
@@ -119,7 +120,7 @@ returns : tie.Need-returns
 returns c =
     let at = c .before .before .before .before .before .before .before in
     let put = c .before .before .before .put-refusal in
-    let found = c .before .before .before .before .found-with in
+    let found = c .before .before .before .before .of-whole in
     let line = refusalLine Numbered.Lines (found .result) in
     let text = start at .args .text .now in
     let fits : length line ≤ length text = omega (arith, put .ensures .1 .1, start at .pre) in
@@ -159,7 +160,7 @@ returns-2 c =
     let put = c .before .before .before .put-report in
     let carried = c .before .before .before .before .before .before .before .before in
     let at = carried .before in
-    let few : length (records at) ≤ 8192 = omega (arith, taken carried, within carried, at .before .records2 .given) in
+    let few : length (records at) ≤ reportRoom = omega (arith, taken carried, within carried, at .before .records2 .given) in
     let fits : length (reportText (records at)) ≤ length (start at .args .text .now) =
     omega (arith, put .ensures .1 .1, few, start at .pre) in
     put-front (put .result) (c .bytes-of2 .result) (reportText (records at)) (printed (pupil at)) (start at .args .text .now) (put .last .0)
@@ -176,7 +177,7 @@ put-printed-spec =
     slice-aggregate-run-2
     run-requires
     code-of-requires
-    found-with-requires
+    of-whole-requires
     put-refusal-requires
     bytes-of-requires
     same-length

@@ -1,4 +1,4 @@
--- `fields_at` meets its contract: the four numbers that it reads are those that the meaning reads.
+-- `fields_at` meets its contract: the five numbers that it reads are those that the meaning reads.
 use borrow.Author.Needs.{needs}
 use Rattle.listing.proofs.fields_at.Statement.{statement}
 use Rattle.listing.proofs.fields_at.Tie as tie
@@ -33,13 +33,20 @@ add-word-at c = search needs
 word-at-requires : tie.Need-word-at-requires
 word-at-requires c κs = search needs
 
+add-word-at-2 : tie.Need-add-word-at-2
+add-word-at-2 c = search needs
+
+word-at-requires-2 : tie.Need-word-at-requires-2
+word-at-requires-2 c κs = search needs
+
 returns : tie.Need-returns
 returns c =
     rw (
-      ← c .before .before .before .byte-at .ensures,
-      ← c .before .before .byte-at2 .ensures,
-      ← c .before .byte-at3 .ensures,
-      ← c .word-at .ensures,
+      ← c .before .before .before .before .byte-at .ensures,
+      ← c .before .before .before .byte-at2 .ensures,
+      ← c .before .before .byte-at3 .ensures,
+      ← c .before .word-at .ensures,
+      ← c .word-at2 .ensures,
     )
 
 pub fields-at-spec : {M : Type 1} → statement M
@@ -56,4 +63,6 @@ fields-at-spec =
     cast-par
     add-word-at
     word-at-requires
+    add-word-at-2
+    word-at-requires-2
     returns)

@@ -7,14 +7,15 @@ use native.Mathlib.Numerals.{add-one}
 use lib.ListN.{length}
 use borrow.Author.Needs.{needs}
 use borrow.Author.Tests.{le-leb, lt-leb}
-use Rattle.listing.specs.Text.{lineOf, lineAt, linesTo}
+use Rattle.report.specs.Record.{recordLength}
+use Rattle.listing.specs.Text.{lineOf, lineAt, linesTo, headerLine}
 use Rattle.listing.proofs.Lines.{length-lines, lines-within, length-text}
 use Rattle.listing.proofs.fits.Statement.{statement}
 use Rattle.listing.proofs.fits.Tie as tie
 
 record Counted (records : List ℕ) (room left line : ℕ) : Type 0 where
-  within : line ≤ length records / 8
-  parts : left + 17 + length (linesTo records line) ≡ room
+  within : line ≤ length records / recordLength
+  parts : left + length headerLine + length (linesTo records line) ≡ room
 
 abbrev Inv-loop : tie.InvT-loop
 Inv-loop records room left₀ line₀ line-end left line = Counted records room left line
@@ -48,7 +49,7 @@ returns-2 c =
     let at = c .before .before .before .before in
     let start = at .before .before .before .args in
     let records = start .records .now in
-    let within = lines-within records (at .loop .line) (length records / 8) (omega arith) in
+    let within = lines-within records (at .loop .line) (length records / recordLength) (omega arith) in
     sym (lt-leb _ (start .room) (omega (arith, at .loop .inv, length-text records, within, long (c .before))))
 
 add-line : tie.Need-add-line Inv-loop μ-loop
@@ -70,7 +71,7 @@ returns-3 : tie.Need-returns-3 Inv-loop μ-loop
 returns-3 c =
     let start = c .before .before .before .before .args in
     let at = c .before .loop in
-    let all : at .line ≡ length (start .records .now) / 8 = omega (arith, at .inv .within) in
+    let all : at .line ≡ length (start .records .now) / recordLength = omega (arith, at .inv .within) in
     sym (le-leb _ (start .room) (omega (arith, length-text (start .records .now), rw all at (at .inv .parts))))
 
 pub fits-spec : {M : Type 1} → statement M

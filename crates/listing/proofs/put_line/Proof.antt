@@ -11,7 +11,7 @@ use Rattle.listing.specs.Text.{nameOf, ended, blank, lineFeed, lineOf}
 use Rattle.listing.proofs.put_line.Statement.{statement}
 use Rattle.listing.proofs.put_line.Tie as tie
 
--- The first one, two and three columns of a line.
+-- The first one, two, three and four columns of a line.
 abbrev one : Fields → List ℕ
 one f = nameOf (f .sender)
 
@@ -21,11 +21,15 @@ two f = one f ++ ended (f .number) blank
 abbrev three : Fields → List ℕ
 three f = two f ++ ended (f .code) blank
 
+abbrev four : Fields → List ℕ
+four f = three f ++ ended (f .par) blank
+
 -- The line is as long as its columns one by one.
 record Columns (f : Fields) : Type 0 where
   second : length (two f) ≡ length (one f) + length (ended (f .number) blank)
   third : length (three f) ≡ length (two f) + length (ended (f .code) blank)
-  last : length (lineOf f) ≡ length (three f) + length (ended (f .par) lineFeed)
+  fourth : length (four f) ≡ length (three f) + length (ended (f .par) blank)
+  last : length (lineOf f) ≡ length (four f) + length (ended (f .value) lineFeed)
 
 columns : (f : Fields) → Columns f
 unfolding lineOf
@@ -33,7 +37,8 @@ columns f =
     record {
       second = length-append (one f) (ended (f .number) blank);
       third = length-append (two f) (ended (f .code) blank);
-      last = length-append (three f) (ended (f .par) lineFeed);
+      fourth = length-append (three f) (ended (f .par) blank);
+      last = length-append (four f) (ended (f .value) lineFeed);
     }
 
 -- The function's start, seen from behind each call.
@@ -45,6 +50,9 @@ from-two c = from-one (c .before .before .before .before)
 
 abbrev from-three : tie.After-put-field2 → tie.Start
 from-three c = from-two (c .before .before .before .before)
+
+abbrev from-four : tie.After-put-field3 → tie.Start
+from-four c = from-three (c .before .before .before .before)
 
 -- Each call lays down one column more.
 abbrev Down : tie.Start → List ℕ → List ℕ → ℕ → Type 0
@@ -65,6 +73,12 @@ three-laid c =
     let more = ended (from-three c .args .fields .code) blank in
     laid-more (two-laid (c .before .before .before .before)) more (put .last .0) (put .result) (put .ensures .0) (put .ensures .1)
 
+four-laid : (c : tie.After-put-field3) → Down (from-four c) (four (from-four c .args .fields)) (c .put-field3 .last .0) (c .put-field3 .result)
+four-laid c =
+    let put = c .put-field3 in
+    let more = ended (from-four c .args .fields .par) blank in
+    laid-more (three-laid (c .before .before .before .before)) more (put .last .0) (put .result) (put .ensures .0) (put .ensures .1)
+
 put-name-requires : tie.Need-put-name-requires
 put-name-requires c κs = omega (arith, c .before .before .pre, columns (c .before .before .args .fields))
 
@@ -84,7 +98,13 @@ put-field-requires-3 : tie.Need-put-field-requires-3
 put-field-requires-3 c κs =
     let at = c .before .before .before in
     let s = from-three at in
-    laid-fits (three-laid at) (ended (s .args .fields .par) lineFeed) (omega (arith, s .pre, columns (s .args .fields)))
+    laid-fits (three-laid at) (ended (s .args .fields .par) blank) (omega (arith, s .pre, columns (s .args .fields)))
+
+put-field-requires-4 : tie.Need-put-field-requires-4
+put-field-requires-4 c κs =
+    let at = c .before .before .before in
+    let s = from-four at in
+    laid-fits (four-laid at) (ended (s .args .fields .value) lineFeed) (omega (arith, s .pre, columns (s .args .fields)))
 
 same-length : tie.Need-same-length
 same-length c = search needs
@@ -92,10 +112,10 @@ same-length c = search needs
 returns : tie.Need-returns
 unfolding lineOf
 returns c =
-    let put = c .before .before .put-field3 in
+    let put = c .before .before .put-field4 in
     let at = c .before .before .before .before .before .before in
-    let more = ended (from-three at .args .fields .par) lineFeed in
-    let all = laid-more (three-laid at) more (put .last .0) (put .result) (put .ensures .0) (put .ensures .1) in
+    let more = ended (from-four at .args .fields .value) lineFeed in
+    let all = laid-more (four-laid at) more (put .last .0) (put .result) (put .ensures .0) (put .ensures .1) in
     (all .place, all .stored)
 
 pub put-line-spec : {M : Type 1} → statement M
@@ -106,5 +126,6 @@ put-line-spec =
     put-field-requires
     put-field-requires-2
     put-field-requires-3
+    put-field-requires-4
     same-length
     returns)

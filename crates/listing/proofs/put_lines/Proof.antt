@@ -7,6 +7,7 @@ use native.Mathlib.Numerals.{add-one}
 use lib.ListN.{length}
 use borrow.Author.Needs.{needs}
 use Rattle.words.proofs.Stores.{Laid, laid-length, laid-fits, laid-more}
+use Rattle.report.specs.Record.{recordLength}
 use Rattle.listing.specs.Text.{lineOf, lineAt, linesTo, linesOf}
 use Rattle.listing.proofs.Lines.{lines-within}
 use Rattle.listing.proofs.put_lines.Statement.{statement}
@@ -14,7 +15,7 @@ use Rattle.listing.proofs.put_lines.Tie as tie
 
 record Lines (room₀ : List ℕ) (from : ℕ) (records room : List ℕ) (at place : ℕ) : Type 0 where
   laid : Laid room₀ from (linesTo records place) room at
-  within : place ≤ length records / 8
+  within : place ≤ length records / recordLength
   fits : from + length (linesOf records) ≤ length room₀
 
 abbrev Inv-loop : tie.InvT-loop
@@ -36,7 +37,7 @@ put-line-requires : tie.Need-put-line-requires Inv-loop μ-loop
 put-line-requires c κs =
     let at = c .before .before .before .loop in
     let records = c .before .before .before .before .before .before .args .records .now in
-    let room = lines-within records (at .place) (length records / 8) (omega arith) in
+    let room = lines-within records (at .place) (length records / recordLength) (omega arith) in
     rw (c .fields-at .ensures) (laid-fits (at .inv .laid) (lineAt records (at .place)) (omega (arith, at .inv .fits, room)))
 
 add-place : tie.Need-add-place Inv-loop μ-loop
@@ -66,7 +67,7 @@ returns : tie.Need-returns Inv-loop μ-loop
 returns c =
     let at = c .before .loop in
     let records = c .before .before .before .before .args .records .now in
-    let all : at .place ≡ length records / 8 = omega (arith, at .inv .within) in
+    let all : at .place ≡ length records / recordLength = omega (arith, at .inv .within) in
     let laid = at .inv .laid in
     (rw all at (laid .place), rw all at (laid .stored))
 

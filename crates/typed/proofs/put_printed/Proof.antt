@@ -7,6 +7,7 @@ use native.Mathlib.Omega.{arith}
 use lib.ListN.{length, take}
 use lib.Seq.{length-take-le}
 use borrow.Author.Needs.{needs}
+use Rattle.report.specs.Record.{recordLength, reportRoom}
 use Rattle.bench.specs.declared.Bench.{Bench}
 use Rattle.bench.specs.Typed.{begunFinding, typedFound, typedOf}
 use Rattle.listing.specs.declared.refusals.Numbered.{Numbered}
@@ -34,7 +35,7 @@ typed c = start c .args .typed .now
 abbrev own : tie.After-finding-of → List ℕ
 own c = c .before .before .before .before .before .before .report-room .result
 
-own-long : (c : tie.After-finding-of) → length (own c) ≡ 8192
+own-long : (c : tie.After-finding-of) → length (own c) ≡ reportRoom
 own-long c = sym (c .before .before .before .before .before .before .report-room .ensures)
 
 told : (c : tie.After-finding-of) → c .finding-of .result ≡ typedFound (bench c) (kit c) (typed c) (own c)
@@ -53,7 +54,7 @@ refuses c refused =
 abbrev records : tie.After-finding-of → List ℕ
 records c =
     let run = c .before .before .run-typed in
-    take ((run .result .kit + run .result .pupil) * 8) (run .last .1 .1 .1 .0)
+    take ((run .result .kit + run .result .pupil) * recordLength) (run .last .1 .1 .1 .0)
 
 abbrev found : tie.Else1 → tie.After-finding-of
 found c = c .before .before .before
@@ -63,7 +64,7 @@ done c = sym (ap (λ f. f .told .code) (found c .finding-of .ensures)) ∙ c .if
 
 within : (c : tie.Else1)
     → let run = found c .before .before .run-typed in
-    (run .result .kit + run .result .pupil) * 8 ≤ length (run .last .1 .1 .1 .0)
+    (run .result .kit + run .result .pupil) * recordLength ≤ length (run .last .1 .1 .1 .0)
 within c =
     let at = found c in
     let run = at .before .before .run-typed in
@@ -76,7 +77,7 @@ within c =
 
 taken : (c : tie.Else1)
     → let run = found c .before .before .run-typed in
-    length (records (found c)) ≡ (run .result .kit + run .result .pupil) * 8
+    length (records (found c)) ≡ (run .result .kit + run .result .pupil) * recordLength
 taken c = length-take-le _ _ (within c)
 
 report : (c : tie.Else1) → reportText (records (found c)) ≡ printed (typed (found c))
@@ -87,7 +88,7 @@ report c =
     let list = at .before .before .before .before .before .before .before .kit-list .ensures in
     let front = records-front (bench at) (kit at) (typed at) (own at) (run .result) (run .ensures .0) (done c) in
     let none = sym (ap (λ f. f .told .code) (told at)) ∙ c .if1 .left in
-    ap reportText (ap (take ((run .result .kit + run .result .pupil) * 8)) (run .ensures .1) ∙ front)
+    ap reportText (ap (take ((run .result .kit + run .result .pupil) * recordLength)) (run .ensures .1) ∙ front)
     ∙ prints-report (bench at) (kit at) (typed at) (own at) fresh list (own-long at) none
 
 kit-list-requires : tie.Need-kit-list-requires
@@ -164,7 +165,7 @@ returns-2 c =
     let carried = c .before .before .before .before .before .before .before .before in
     let at = found carried in
     let room = start at .args .room .now in
-    let few : length (records at) ≤ 8192 = omega (arith, taken carried, within carried, at .before .records2 .given) in
+    let few : length (records at) ≤ reportRoom = omega (arith, taken carried, within carried, at .before .records2 .given) in
     let fits : length (reportText (records at)) ≤ length room = omega (arith, put .ensures .1 .1, few, start at .pre) in
     put-front (put .result) (c .bytes-of2 .result) (reportText (records at)) (printed (typed at)) room (put .last .0) (report carried) fits
     (c .bytes-of2 .ensures) (put .ensures .0) (put .ensures .1 .0)

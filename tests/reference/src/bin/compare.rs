@@ -12,7 +12,7 @@ use reference::comparison::program::Program;
 use reference::comparison::rng::Rng;
 use reference::comparison::shrink::shrunk;
 use reference::comparison::tally::{first_difference, grouped, Tally};
-use reference::comparison::{fixed, fixed_dark, inputs, random};
+use reference::comparison::{fixed, fixed_dark, fixed_range, inputs, random};
 use reference::list::listing;
 use reference::programs::{assembler, lister, typed};
 use reference::replay::{hex, transcript, Replay, Script};
@@ -126,6 +126,7 @@ fn compare_lists(options: &Options) -> Result<usize, Differs> {
         full_list(LONGEST_LIST),
         full_list(LONGEST_LIST + 1),
         fixed_dark::list(),
+        fixed_range::list(),
     ];
     lists.extend((0..options.lists).map(|_| random::list(&mut rng)));
     let subject = Subject {

@@ -3,7 +3,8 @@
 
 use super::items::{fresh, read, status, Item};
 use super::{
-    fixed_bench, fixed_dark, fixed_groups, fixed_lines, fixed_pool, fixed_text, fixed_wire,
+    fixed_bench, fixed_dark, fixed_groups, fixed_lines, fixed_pool, fixed_range, fixed_range_lines,
+    fixed_text, fixed_wire,
 };
 use crate::replay::LONGEST_SCRIPT;
 
@@ -16,6 +17,8 @@ pub fn scripts() -> Vec<Vec<Item>> {
     episodes.extend(fixed_pool::episodes());
     episodes.extend(fixed_groups::episodes());
     episodes.extend(fixed_dark::episodes());
+    episodes.extend(fixed_range::episodes());
+    episodes.extend(fixed_range_lines::episodes());
     episodes.extend(fixed_wire::episodes());
     episodes.extend(fixed_lines::episodes());
     episodes.extend(fixed_text::episodes());
@@ -52,8 +55,8 @@ fn bad_scripts() -> Vec<Vec<Item>> {
     let ends: [&[u8]; 19] = [
         &[0x01],
         &[0x01, 5, 1, 0x5a, 0, 2],
-        &[0x03, 0x20, 0x00, 0, 0],
-        &[0x03, 0x20, 0x00, 0, 0, 0, 1],
+        &[0x03, 0x30, 0x00, 0, 0],
+        &[0x03, 0x30, 0x00, 0, 0, 0, 1],
         &[0x05, 0, 0, 0, 0, 1, 0, 0, 0],
         &[0x06, 32],
         &[0x06, 32, 32, 0, 0],
@@ -64,7 +67,7 @@ fn bad_scripts() -> Vec<Vec<Item>> {
         &[0x0a, 0, 9, 0, 2, b'#'],
         &[0x0b, 0, 9, 0],
         &[0x0b, 0, 9, 0, 8, 1, 0x5a, 0, 2, 1, 0x5a, 0],
-        &[0x0c, 0x20, 0x00, 0, 0, 0, 1],
+        &[0x0c, 0x30, 0x00, 0, 0, 0, 1],
         &[0x0d, 0, 1, b'#', 0, 0, 0],
         &[0x0d, 0, 2, b'#'],
         &[0x0e],

@@ -57,7 +57,7 @@ fn examples() -> Vec<Item> {
 /// The 8-bit count of flushes past its end.
 fn flush_wraps() -> Vec<Item> {
     let flushes = raw(false, Kind::TlmFlush, [0; 2]).repeat(254);
-    let mut items = vec![run(8192, &flushes, &[]), status()];
+    let mut items = vec![run(12_288, &flushes, &[]), status()];
     for _ in 255..=257 {
         items.extend([now(Kind::TlmFlush, 0), status()]);
     }

@@ -7,7 +7,7 @@ use super::items::{append, decoded, now, passed, raw, run, second, status, typed
 use crate::command::{Kind, TABLE};
 use crate::macros::{FULLEST_SECOND, LONGEST_MACRO};
 
-pub(super) const REPORT_ROOM: u16 = 8192;
+pub(super) const REPORT_ROOM: u16 = 12_288;
 const LONGEST: u32 = LONGEST_MACRO as u32;
 
 /// Entries of a macro, as their bytes.

@@ -10,7 +10,7 @@ use crate::command::{Kind, TABLE};
 use crate::macros::{MACROS, SHARED_ENTRIES};
 use crate::run::LONGEST_LIST;
 
-const REPORT_ROOM: u16 = 8192;
+const REPORT_ROOM: u16 = 12_288;
 /// The long macro beside seven macros of one entry each.
 const ALL_BUT_SEVEN: usize = SHARED_ENTRIES + 1 - MACROS;
 /// One entry in so many is a WAIT, so that no second is too full.

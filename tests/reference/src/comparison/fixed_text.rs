@@ -9,8 +9,8 @@ use crate::run::LONGEST_LIST;
 use crate::text::LONGEST_TEXT;
 
 /// Room for whatever a list or a text can give.
-const ROOM: u16 = 9_000;
-const REPORT_ROOM: u16 = 8_192;
+const ROOM: u16 = 13_000;
+const REPORT_ROOM: u16 = 12_288;
 /// A text, lacking nothing but a line feed at its end.
 const SAMPLE: &[u8] = b"# a list\n\nimg_pwr 1\n\n+tlm_flush\nopen 3\n+wait 2\n#\ntrk_goal 511.5 0";
 
@@ -139,7 +139,7 @@ fn rooms() -> Vec<Item> {
             items.push(list_text(room, &bytes));
         }
     }
-    for room in (0..=50).chain([8191, 8192, 8999, 9000, 9001, 65535]) {
+    for room in (0..=50).chain([8192, 9000, 12287, 12288, 12999, 13000, 13001, 65535]) {
         items.push(assemble(room, b"stop\n\ntrk_goal 1.5 2\nrun 7\n"));
         items.push(assemble(room, b"stop\n\ntrk_goal 1.5 2\nrun 8\n"));
     }
@@ -205,7 +205,7 @@ fn lists_ended() -> Vec<Item> {
         items.push(list_text(60, &[&flush(), rest].concat()));
     }
     let full = flush().repeat(LONGEST_LIST / flush().len());
-    items.extend([5120, 5119, 8191, 0].map(|room| list_text(room, &full)));
+    items.extend([5120, 5119, 12287, 0].map(|room| list_text(room, &full)));
     let big = [&full[..], &[0]].concat();
     let bad = vec![0; LONGEST_LIST + 1];
     items.extend([list_text(ROOM, &big), list_text(0, &bad)]);

@@ -14,7 +14,7 @@ use crate::run::{KIT, LONGEST_LIST, PUPIL};
 use crate::wire::{bytes_of, sealed, unsealed, FLAG_BIT, LENGTH_BITS, OPCODE_SHIFT};
 
 const ROOM: u8 = DECODED_ROOM as u8;
-const REPORT_ROOM: u16 = 8192;
+const REPORT_ROOM: u16 = 12_288;
 
 pub fn episodes() -> Vec<Vec<Item>> {
     let mut episodes: Vec<Vec<Item>> = TABLE.iter().flat_map(limits).collect();
@@ -233,8 +233,8 @@ fn oversized_lists() -> Vec<Item> {
     let full = flush().repeat(LONGEST_LIST / flush().len());
     let big = [&full[..], &[0]].concat();
     let mut items = vec![
-        run(9000, &big, &[]),
-        run(9000, &[], &big),
+        run(13_000, &big, &[]),
+        run(13_000, &[], &big),
         run(100, &big, &[]),
         run(100, &[], &big),
         status(),
@@ -256,7 +256,7 @@ fn full_lists() -> Vec<Item> {
     vec![
         run(REPORT_ROOM, &full, &full),
         status(),
-        run(9000, &goals, &full[..LONGEST_LIST - 1]),
+        run(13_000, &goals, &full[..LONGEST_LIST - 1]),
         status(),
         run(REPORT_ROOM - 1, &full, &goals),
         status(),
@@ -265,8 +265,11 @@ fn full_lists() -> Vec<Item> {
 
 fn report_rooms() -> Vec<Item> {
     let mut items = Vec::new();
-    let near = [0, 1, 7, 8, 16, 4096, 8184, 8190, 8191, 8192, 8193, 8999];
-    for room in near.into_iter().chain([9000, 9001, 16384, 32768, 65535]) {
+    let small = [0, 1, 11, 12, 24, 8191, 8192, 8193, 9000, 12276, 12286];
+    let large = [
+        12287, 12288, 12289, 12999, 13000, 13001, 16384, 32768, 65535,
+    ];
+    for room in small.into_iter().chain(large) {
         items.extend([run(room, &flush(), &flush()), status()]);
     }
     items

@@ -1,11 +1,11 @@
 //! Whole inputs for the programs for typed lists: fixed ones for each sort of
 //! answer and each limit, then random ones.
 
-use super::fixed_dark;
 use super::fixed_wire::{faulty, flush};
 use super::items::raw;
 use super::rng::Rng;
 use super::texts::{self, lengthened};
+use super::{fixed_dark, fixed_range, fixed_range_lines};
 use crate::command::Kind;
 use crate::macros::SHARED_ENTRIES;
 use crate::run::LONGEST_LIST;
@@ -34,6 +34,7 @@ pub fn texts(rng: &mut Rng, random: usize) -> Vec<Vec<u8>> {
         "img_pwr 0\nimg_track 1 1\nimg_track 1 0\n",
     ];
     let mut all: Vec<Vec<u8>> = small.iter().map(|text| text.as_bytes().to_vec()).collect();
+    all.extend(fixed_range_lines::texts());
     all.extend([512, 513].map(|times| b"tlm_flush\n".repeat(times)));
     let groups = [(SHARED_ENTRIES + 1, 1), (2, SHARED_ENTRIES / 2)];
     for (each, times) in groups.into_iter().chain([(64, 1), (64, 2), (65, 1)]) {
@@ -66,6 +67,7 @@ pub fn raw_lists(rng: &mut Rng, random: usize) -> Vec<Vec<u8>> {
         raw(false, Kind::Wait, [1, 0]),
     ];
     all.extend((0..7).map(|fault| faulty(Kind::ImgPwr.row(), 1 << fault)));
+    all.extend(fixed_range::raw_lists());
     let full = flush().repeat(LONGEST_LIST);
     all.extend([0, 1].map(|more| full[..LONGEST_LIST + more].to_vec()));
     all.extend((0..random).map(|_| {

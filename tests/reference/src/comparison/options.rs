@@ -25,7 +25,7 @@ pub struct Options {
 const DEFAULT_SEED: u64 = 1;
 const DEFAULT_LISTS: usize = 150;
 const DEFAULT_INPUTS: usize = 40;
-const DEFAULT_ANSWERS: u64 = 220_000;
+const DEFAULT_ANSWERS: u64 = 240_000;
 
 /// The same options while it is not yet known whether all have been given.
 #[derive(Default)]

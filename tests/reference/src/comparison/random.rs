@@ -65,7 +65,7 @@ impl Maker {
     }
 
     fn episode(&mut self) {
-        match self.rng.below(171) {
+        match self.rng.below(200) {
             0..=29 => self.macros_episode(),
             30..=49 => self.chatter_episode(),
             50..=59 => self.decoded_episode(),
@@ -79,8 +79,9 @@ impl Maker {
             125..=128 => self.line_episode(),
             129..=134 => self.pool_episode(),
             135..=154 => self.groups_episode(),
-            155..=157 => self.many_runs_episode(),
-            158..=169 => self.dark_episode(),
+            155..=158 => self.many_runs_episode(),
+            159..=170 => self.dark_episode(),
+            171..=198 => self.range_episode(),
             _ => self.long_text_episode(),
         }
     }
@@ -326,7 +327,7 @@ impl Maker {
             1 => self.rng.within(enough, u16::MAX.into()),
             2 => enough - 1,
             3 => enough,
-            _ => self.rng.within(enough, 9_100),
+            _ => self.rng.within(enough, 13_100),
         };
         room as u16
     }

@@ -54,7 +54,7 @@ impl Maker {
     /// The entries and the WAIT of the first macro, and how often each of the next
     /// ones starts the one below.
     fn first_of_many(&mut self) -> (usize, usize, &'static [usize]) {
-        match self.rng.below(3) {
+        match self.rng.below(4) {
             // All others start it: a length that would seem small to two bytes.
             0 => (1, (1 << 16) / (SHARED_ENTRIES - 2) + 1, &[]),
             // A macro as long and as full as may be, and then millions of entries.
@@ -62,7 +62,8 @@ impl Maker {
             _ => {
                 let often: [&[usize]; 5] = [&[], &[2], &[24], &[2, 8], &[8, 24]];
                 let size = self.rng.pick(&[1, 32, FULLEST_SECOND]);
-                (size, self.rng.below(3), self.rng.pick(&often))
+                let seconds = self.rng.pick(&[0, 0, 1, 2]);
+                (size, seconds, self.rng.pick(&often))
             }
         }
     }

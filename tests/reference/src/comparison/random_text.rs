@@ -93,7 +93,7 @@ impl Maker {
             2 | 3 => needed,
             4 | 5 => needed + 1,
             6 => self.rng.below(needed + 1),
-            7 => self.rng.pick(&[0, 8191, 8192, 8999, 9000, 9001, 65535]),
+            7 => self.rng.pick(&[0, 8192, 9000, 12287, 12288, 13000, 65535]),
             _ => needed + self.rng.below(100),
         };
         room as u16

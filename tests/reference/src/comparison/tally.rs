@@ -62,7 +62,7 @@ fn codes_in(line: &str) -> Vec<u8> {
     let places: &[usize] = match words[0] {
         "command" | "run" | "assembled" | "listed" | "typed" => &[1],
         "frame" => &[1, 2],
-        "read" | "decoded" => &[1, 3],
+        "read" | "decoded" => &[1, 6],
         "record" => return record_code(words.get(1)).into_iter().collect(),
         _ => &[],
     };

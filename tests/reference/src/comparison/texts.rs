@@ -3,6 +3,7 @@
 
 use super::damage::{any_kind, arguments, damaged};
 use super::items::raw;
+use super::past::{numbered_kind, past_arguments, past_word};
 use super::rng::Rng;
 use crate::command::{Allowed, Argument, FlagRule, Kind, LARGEST_GOAL_BITS, MINUS_ZERO_BITS};
 use crate::numbers::{MOST_DIGITS, QUARTERS};
@@ -132,11 +133,29 @@ fn good_line(rng: &mut Rng) -> Line {
     line_for(rng, fitting_flag(kind, flag), kind, values)
 }
 
+/// A line with a number past a limit in one place or in both. (An only argument is left
+/// allowed one time in three.)
+pub fn past_line(rng: &mut Rng) -> Vec<u8> {
+    let kind = numbered_kind(rng);
+    let flag = rng.percent(35);
+    let values = sayable_values(rng, kind);
+    let mut line = line_for(rng, fitting_flag(kind, flag), kind, values);
+    let which = rng.below(3);
+    for (position, argument) in kind.row().arguments.iter().enumerate() {
+        if which != position {
+            let word = past_word(rng, argument);
+            line.arguments[position] = padded(rng, word).into();
+        }
+    }
+    line.bytes()
+}
+
 /// A line with one fault, or with a change that turns out to be none.
 fn damaged_line(rng: &mut Rng, mut line: Line) -> Vec<u8> {
-    match rng.below(3) {
+    match rng.below(4) {
         0 => change_name(rng, &mut line),
         1 => change_arguments(rng, &mut line),
+        2 => return past_line(rng),
         _ => return changed_bytes(rng, line.bytes()),
     }
     line.bytes()
@@ -257,6 +276,9 @@ pub fn raw_list(rng: &mut Rng, commands: usize, odd_percent: usize) -> Vec<u8> {
                 true => rng.pick(&UNSAID_GOALS),
                 false => rng.word(),
             };
+        }
+        if rng.percent(odd_percent / 2) {
+            values = past_arguments(rng, kind);
         }
         let bytes = raw(fitting_flag(kind, flag), kind, values);
         list.extend(if rng.percent(odd_percent) {

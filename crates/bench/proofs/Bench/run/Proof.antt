@@ -6,8 +6,9 @@ use native.Mathlib.Omega.{arith}
 use lib.ListN.{length}
 use borrow.Author.Needs.{needs}
 use borrow.Author.Tests.{lt-ltb, le-ltb, not-true, not-false}
+use Rattle.report.specs.Record.{recordLength, reportRoom}
 use Rattle.walk.specs.Walk.{rests}
-use Rattle.walk.proofs.Rests.{records-fit}
+use Rattle.walk.proofs.Rests.{records-1024}
 use Rattle.bench.specs.declared.Bench.{Bench}
 use Rattle.bench.specs.declared.lists.Begun.{Begun}
 use Rattle.bench.specs.Run.{ownNumbers, runCode}
@@ -52,7 +53,7 @@ returns-3 c =
     (rw (
       le-ltb 4096 (length (args .kit .now)) (c .before .before .before .if1 .left),
       le-ltb 4096 (length (args .pupil .now)) (c .before .before .if2 .left),
-      lt-ltb (length (args .room .now)) 8192 (c .before .if3 .taken),
+      lt-ltb (length (args .room .now)) reportRoom (c .before .if3 .taken),
     ))
 
 works-requires : tie.Need-works-requires
@@ -84,7 +85,7 @@ returns-4 c =
     (rw (
       le-ltb 4096 (length (args .kit .now)) (tested surveyed .before .before .if1 .left),
       le-ltb 4096 (length (args .pupil .now)) (tested surveyed .before .if2 .left),
-      le-ltb (length (args .room .now)) 8192 (tested surveyed .if3 .left),
+      le-ltb (length (args .room .now)) reportRoom (tested surveyed .if3 .left),
       survey-unsound (args .self) (entry surveyed .good .0) (surveyed .survey .result) (found surveyed) (not-true _ (c .before .if4 .taken)),
     ))
 
@@ -103,17 +104,17 @@ passed c =
     rw (
       le-ltb 4096 (length (args .kit .now)) (tested surveyed .before .before .if1 .left),
       le-ltb 4096 (length (args .pupil .now)) (tested surveyed .before .if2 .left),
-      le-ltb (length (args .room .now)) 8192 (tested surveyed .if3 .left),
+      le-ltb (length (args .room .now)) reportRoom (tested surveyed .if3 .left),
       good c .sound,
     )
 
 -- and the records have room.
 fits : (c : tie.Else4) → (let args = entry (c .before .before) .args in
-    (length (rests (args .kit .now)) + length (rests (args .pupil .now))) * 8 ≤ length (args .room .now))
+    (length (rests (args .kit .now)) + length (rests (args .pupil .now))) * recordLength ≤ length (args .room .now))
 fits c =
     let surveyed = c .before .before in
     let args = entry surveyed .args in
-    omega (arith, records-fit (args .kit .now) (args .pupil .now) (tested surveyed .before .before .if1 .left) (tested surveyed .before .if2 .left))
+    omega (arith, records-1024 (args .kit .now) (args .pupil .now) (tested surveyed .before .before .if1 .left) (tested surveyed .before .if2 .left))
 
 run-list-requires : tie.Need-run-list-requires
 run-list-requires c κs =
@@ -151,7 +152,7 @@ first c =
 
 -- The pupil's records have room behind the kit's.
 left-fits : (c : tie.After-run-list)
-    → (c .run-list .result .count + length (rests (entry (passing c .before .before) .args .pupil .now))) * 8 ≤ length (c .run-list .last .1 .1 .1 .1 .0)
+    → (c .run-list .result .count + length (rests (entry (passing c .before .before) .args .pupil .now))) * recordLength ≤ length (c .run-list .last .1 .1 .1 .1 .0)
 left-fits c =
     let args = entry (passing c .before .before) .args in
     let kit-done = first c in

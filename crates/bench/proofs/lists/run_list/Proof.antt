@@ -4,6 +4,7 @@ use Prim.Native.Nat.{_+_, _*_, _-_, _≤_}
 use native.Mathlib.Omega.{arith}
 use lib.ListN.{length}
 use borrow.Author.Needs.{needs}
+use Rattle.report.specs.Record.{recordLength}
 use Rattle.walk.proofs.Rests.{rests-512}
 use Rattle.walk.proofs.Turns.{CommandAt, command-at}
 use Rattle.bench.specs.Steps.{benchOf}
@@ -23,8 +24,8 @@ abbrev μ-loop : tie.MeasureT-loop
 abbrev entry : tie.At-loop Inv-loop μ-loop → tie.Start Inv-loop μ-loop
 entry c = c .before .before .before
 
-abbrev begun : tie.After-told-by Inv-loop μ-loop → tie.In-loop Inv-loop μ-loop
-begun c = c .before .before .before
+abbrev begun : tie.After-decide-bytes Inv-loop μ-loop → tie.In-loop Inv-loop μ-loop
+begun c = c .before .before
 
 loop-holds : tie.Need-loop-holds Inv-loop μ-loop
 loop-holds c =
@@ -45,12 +46,9 @@ part-rest-end c = search needs
 decide-bytes-requires : tie.Need-decide-bytes-requires Inv-loop μ-loop
 decide-bytes-requires c κs = search needs
 
-told-by-requires : tie.Need-told-by-requires Inv-loop μ-loop
-told-by-requires c κs = search needs
-
 -- The list still has a command here, so its record has room, and its number is at most 512.
 next : (c : tie.In-loop Inv-loop μ-loop)
-    → (c .before .loop .count + 1 ≤ 512) × (c .before .loop .count * 8 + 8 ≤ length (c .before .loop .room))
+    → (c .before .loop .count + 1 ≤ 512) × (c .before .loop .count * recordLength + recordLength ≤ length (c .before .loop .room))
 next c =
     let begin = entry (c .before) in
     let list = begin .args .list .now in
@@ -68,17 +66,17 @@ mul-end c = omega (arith, next (begun c))
 add-count : tie.Need-add-count Inv-loop μ-loop
 add-count c = omega (arith, next (begun c))
 
-sub-put-record : tie.Need-sub-put-record Inv-loop μ-loop
-sub-put-record c = omega (arith, next (begun c))
+sub-put-decided : tie.Need-sub-put-decided Inv-loop μ-loop
+sub-put-decided c = omega (arith, next (begun c))
 
-part-put-record-start : tie.Need-part-put-record-start Inv-loop μ-loop
-part-put-record-start c = omega (arith, next (begun c))
+part-put-decided-start : tie.Need-part-put-decided-start Inv-loop μ-loop
+part-put-decided-start c = omega (arith, next (begun c))
 
-part-put-record-end : tie.Need-part-put-record-end Inv-loop μ-loop
-part-put-record-end c = search needs
+part-put-decided-end : tie.Need-part-put-decided-end Inv-loop μ-loop
+part-put-decided-end c = search needs
 
-put-record-requires : tie.Need-put-record-requires Inv-loop μ-loop
-put-record-requires c κs = search needs
+put-decided-requires : tie.Need-put-decided-requires Inv-loop μ-loop
+put-decided-requires c κs = search needs
 
 span-requires : tie.Need-span-requires Inv-loop μ-loop
 span-requires c κs = search needs
@@ -105,10 +103,10 @@ loop-again : tie.Need-loop-again Inv-loop μ-loop
 loop-again c =
     let spans = c .before .before in
     let put = spans .before .before .before in
-    let told = put .before .before in
-    let turned = begun told in
-    turn-refused (turned .before .loop .inv) (entry (turned .before) .pre .0 .1) (turned .loop-test .taken) (told .before .decide-bytes .result)
-    (told .before .decide-bytes .ensures) (told .told-by .ensures) (put .put-record .ensures .1) (spans .span .ensures) (c .enum-told .given .1)
+    let decided = put .before .before in
+    let turned = begun decided in
+    turn-refused (turned .before .loop .inv) (entry (turned .before) .pre .0 .1) (turned .loop-test .taken) (decided .decide-bytes .result)
+    (decided .decide-bytes .ensures) (put .put-decided .ensures) (spans .span .ensures) (c .enum-told .given .1)
 
 -- Accepted: the command takes effect.
 enum-known-decision : tie.Need-enum-known-decision Inv-loop μ-loop
@@ -125,11 +123,11 @@ loop-again-2 c =
     let decision = c .before .before .before in
     let spans = decision .before .before in
     let put = spans .before .before .before in
-    let told = put .before .before in
-    let turned = begun told in
+    let decided = put .before .before in
+    let turned = begun decided in
     let effect = c .take-effect .ensures in
-    turn-accepted (turned .before .loop .inv) (entry (turned .before) .pre .0 .1) (turned .loop-test .taken) (told .before .decide-bytes .result)
-    (told .before .decide-bytes .ensures) (told .told-by .ensures) (put .put-record .ensures .1) (spans .span .ensures) (decision .decision .given .1)
+    turn-accepted (turned .before .loop .inv) (entry (turned .before) .pre .0 .1) (turned .loop-test .taken) (decided .decide-bytes .result)
+    (decided .decide-bytes .ensures) (put .put-decided .ensures) (spans .span .ensures) (decision .decision .given .1)
     (effect .0) (effect .1)
 
 same-length : tie.Need-same-length Inv-loop μ-loop
@@ -149,14 +147,13 @@ run-list-spec =
     part-rest-start
     part-rest-end
     decide-bytes-requires
-    told-by-requires
     cast-end
     mul-end
     add-count
-    sub-put-record
-    part-put-record-start
-    part-put-record-end
-    put-record-requires
+    sub-put-decided
+    part-put-decided-start
+    part-put-decided-end
+    put-decided-requires
     span-requires
     add-at
     enum-told

@@ -6,19 +6,16 @@ use native.Mathlib.Omega.{arith}
 use lib.ListN.{length, length-append}
 use borrow.Author.Needs.{needs}
 use Rattle.words.specs.Text.{ascii, decimal}
-use Rattle.words.proofs.Stores.{Laid, laid-first, laid-fits, laid-more, laid-next}
+use Rattle.words.proofs.Stores.{Laid, laid-fits, laid-more, laid-next}
 use Rattle.listing.specs.Text.{lineFeed}
-use Rattle.listing.specs.Refusal.{placeText, refusalLine}
+use Rattle.listing.specs.Refusal.{labelled, placeText, refusalLine}
 use Rattle.listing.proofs.RefusalLine.{length-refusal}
 use Rattle.listing.proofs.refusals.put_found.Statement.{statement}
 use Rattle.listing.proofs.refusals.put_found.Tie as tie
 
 -- The function's start, seen from behind each call.
-abbrev from-opened : tie.After-put-at → tie.Start
-from-opened c = c .before .before .before .before .before
-
-abbrev from-coded : tie.After-put-decimal → tie.Start
-from-coded c = from-opened (c .before .before .before .before .before)
+abbrev from-coded : tie.After-put-labelled → tie.Start
+from-coded c = c .before .before .before .before .before .before
 
 abbrev from-placed : tie.After-put-place → tie.Start
 from-placed c = from-coded (c .before .before .before .before)
@@ -28,7 +25,7 @@ abbrev Down : tie.Start → List ℕ → List ℕ → ℕ → Type 0
 Down s bytes room at = Laid (s .args .room .now) 0 bytes room at
 
 abbrev coded : tie.Start → List ℕ
-coded s = ascii "refused " ++ decimal (s .args .found .told .code)
+coded s = labelled (ascii "refused ") (s .args .found .told .code)
 
 abbrev placed : tie.Start → List ℕ
 placed s = coded s ++ placeText (s .args .numbered) (s .args .found)
@@ -47,17 +44,8 @@ fits s =
     length-append (coded s) (placeText (s .args .numbered) (s .args .found)) in
     record { all = omega (arith, s .pre, length-refusal (s .args .numbered) (s .args .found)); place = place; code = code }
 
-opened : (c : tie.After-put-at) → Down (from-opened c) (ascii "refused ") (c .put-at .last .0) (c .put-at .result)
-opened c =
-    let s = from-opened c in
-    laid-first (ascii "refused ") 0 (s .args .room .now) _ _ (omega (arith, fits s)) (c .put-at .ensures .0) (c .put-at .ensures .1)
-
-code-laid : (c : tie.After-put-decimal) → Down (from-coded c) (coded (from-coded c)) (c .put-decimal .last .0) (c .put-decimal .result)
-code-laid c =
-    let s = from-coded c in
-    let put = c .put-decimal .ensures in
-    let digits = decimal (s .args .found .told .code) in
-    laid-next (opened (c .before .before .before .before .before)) digits _ _ (omega (arith, fits s)) (put .0) (put .1)
+code-laid : (c : tie.After-put-labelled) → Down (from-coded c) (coded (from-coded c)) (c .put-labelled .last .0) (c .put-labelled .result)
+code-laid c = record { place = c .put-labelled .ensures .0; stored = c .put-labelled .ensures .1 }
 
 place-laid : (c : tie.After-put-place) → Down (from-placed c) (placed (from-placed c)) (c .put-place .last .0) (c .put-place .result)
 place-laid c =
@@ -65,17 +53,14 @@ place-laid c =
     let put = c .put-place .ensures in
     laid-more (code-laid (c .before .before .before .before)) (placeText (s .args .numbered) (s .args .found)) _ _ (put .0) (put .1)
 
-slice-aggregate-put-at : tie.Need-slice-aggregate-put-at
-slice-aggregate-put-at c = search needs
+slice-aggregate-put-labelled : tie.Need-slice-aggregate-put-labelled
+slice-aggregate-put-labelled c = search needs
 
-put-at-requires : tie.Need-put-at-requires
-put-at-requires c κs = search needs
+cast-put-labelled : tie.Need-cast-put-labelled
+cast-put-labelled c = search needs
 
-cast-put-decimal : tie.Need-cast-put-decimal
-cast-put-decimal c = search needs
-
-put-decimal-requires : tie.Need-put-decimal-requires
-put-decimal-requires c κs = search needs
+put-labelled-requires : tie.Need-put-labelled-requires
+put-labelled-requires c κs = omega (arith, fits (c .before .before .before .before .before))
 
 put-place-requires : tie.Need-put-place-requires
 put-place-requires c κs =
@@ -83,11 +68,11 @@ put-place-requires c κs =
     let s = from-coded at in
     laid-fits (code-laid at) (placeText (s .args .numbered) (s .args .found)) (omega (arith, fits s))
 
-slice-aggregate-put-at-2 : tie.Need-slice-aggregate-put-at-2
-slice-aggregate-put-at-2 c = search needs
+slice-aggregate-put-at : tie.Need-slice-aggregate-put-at
+slice-aggregate-put-at c = search needs
 
-put-at-requires-2 : tie.Need-put-at-requires-2
-put-at-requires-2 c κs = search needs
+put-at-requires : tie.Need-put-at-requires
+put-at-requires c κs = search needs
 
 same-length : tie.Need-same-length
 same-length c = search needs
@@ -95,7 +80,7 @@ same-length c = search needs
 returns : tie.Need-returns
 unfolding refusalLine
 returns c =
-    let put = c .before .before .put-at2 .ensures in
+    let put = c .before .before .put-at .ensures in
     let at = c .before .before .before .before .before .before .before in
     let s = from-placed at in
     let all = laid-next (place-laid at) (lineFeed ∷ []) _ _ (omega (arith, fits s)) (put .0) (put .1) in
@@ -105,12 +90,11 @@ pub put-found-spec : {M : Type 1} → statement M
 put-found-spec =
     tie.close
     (tie.spec
+    slice-aggregate-put-labelled
+    cast-put-labelled
+    put-labelled-requires
+    put-place-requires
     slice-aggregate-put-at
     put-at-requires
-    cast-put-decimal
-    put-decimal-requires
-    put-place-requires
-    slice-aggregate-put-at-2
-    put-at-requires-2
     same-length
     returns)

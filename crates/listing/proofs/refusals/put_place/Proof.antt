@@ -4,7 +4,7 @@ use native.Mathlib.Omega.{arith}
 use borrow.Author.Needs.{needs}
 use Rattle.words.proofs.Stores.{Laid}
 use Rattle.listing.specs.Refusal.{wordOf}
-use Rattle.listing.proofs.RefusalLine.{place-none, word-fits, plain-laid, par-laid}
+use Rattle.listing.proofs.RefusalLine.{place-none, word-fits, plain-laid, wrong-fits, wrong-laid}
 use Rattle.listing.proofs.refusals.put_place.Statement.{statement}
 use Rattle.listing.proofs.refusals.put_place.Tie as tie
 
@@ -44,17 +44,14 @@ returns-2 c =
     (named .before .before .before .if1 .left) _ _ (word named) _ _ (put .put-decimal .ensures) (c .if2 .taken) in
     (laid .place, laid .stored)
 
-slice-aggregate-put-at : tie.Need-slice-aggregate-put-at
-slice-aggregate-put-at c = search needs
-
-put-at-requires : tie.Need-put-at-requires
-put-at-requires c κs = search needs
-
-cast-put-decimal : tie.Need-cast-put-decimal
-cast-put-decimal c = search needs
-
-put-decimal-requires-2 : tie.Need-put-decimal-requires-2
-put-decimal-requires-2 c κs = search needs
+put-stray-requires : tie.Need-put-stray-requires
+put-stray-requires c κs =
+    let chosen = c .before .before in
+    let put = chosen .before .before .before .before in
+    let named = put .before .before .before .before in
+    let start = from-number put in
+    wrong-fits (start .args .numbered) (start .args .found) (start .args .room .now) (start .args .at) (start .pre)
+    (named .before .before .before .if1 .left) _ _ (word named) _ _ (put .put-decimal .ensures) (chosen .if2 .left)
 
 same-length-2 : tie.Need-same-length-2
 same-length-2 c = search needs
@@ -62,14 +59,12 @@ same-length-2 c = search needs
 returns-3 : tie.Need-returns-3
 returns-3 c =
     let last = c .before .before in
-    let par = last .before .before .before .before .before in
-    let chosen = par .before .before .before in
+    let chosen = last .before .before .before in
     let put = chosen .before .before .before .before in
     let named = put .before .before .before .before in
     let start = from-number put in
-    let laid = par-laid (start .args .numbered) (start .args .found) (start .args .room .now) (start .args .at) (start .pre)
-    (named .before .before .before .if1 .left) _ _ (word named) _ _ (put .put-decimal .ensures) (chosen .if2 .left)
-    _ _ (par .put-at .ensures) _ _ (last .put-decimal2 .ensures) in
+    let laid = wrong-laid (start .args .numbered) (start .args .found) (start .args .room .now) (start .args .at) (start .pre)
+    (named .before .before .before .if1 .left) _ _ (word named) _ _ (put .put-decimal .ensures) (chosen .if2 .left) _ _ (last .put-stray .ensures) in
     (laid .place, laid .stored)
 
 pub put-place-spec : {M : Type 1} → statement M
@@ -81,9 +76,6 @@ put-place-spec =
     put-decimal-requires
     same-length
     returns-2
-    slice-aggregate-put-at
-    put-at-requires
-    cast-put-decimal
-    put-decimal-requires-2
+    put-stray-requires
     same-length-2
     returns-3)

@@ -1,4 +1,4 @@
--- `told_of` meets its contract: in each arm the fault is known, and its code and parameter are given.
+-- `told_of` meets its contract: in each arm the fault is known, and with it the code and what was wrong with the number.
 use borrow.Author.Needs.{needs}
 use Rattle.text.proofs.findings.told_of.Statement.{statement}
 use Rattle.text.proofs.findings.told_of.Tie as tie
@@ -6,26 +6,26 @@ use Rattle.text.proofs.findings.told_of.Tie as tie
 enum-told : tie.Need-enum-told
 enum-told c = search needs
 
-told-with-requires : tie.Need-told-with-requires
-told-with-requires c κs = search needs
+plain-requires : tie.Need-plain-requires
+plain-requires c κs = search needs
 
 enum-told-2 : tie.Need-enum-told-2
 enum-told-2 c = search needs
 
-told-with-requires-2 : tie.Need-told-with-requires-2
-told-with-requires-2 c κs = search needs
+plain-requires-2 : tie.Need-plain-requires-2
+plain-requires-2 c κs = search needs
 
 enum-told-3 : tie.Need-enum-told-3
 enum-told-3 c = search needs
 
-told-with-requires-3 : tie.Need-told-with-requires-3
-told-with-requires-3 c κs = search needs
+plain-requires-3 : tie.Need-plain-requires-3
+plain-requires-3 c κs = search needs
 
 enum-told-4 : tie.Need-enum-told-4
 enum-told-4 c = search needs
 
-told-with-requires-4 : tie.Need-told-with-requires-4
-told-with-requires-4 c κs = search needs
+plain-requires-4 : tie.Need-plain-requires-4
+plain-requires-4 c κs = search needs
 
 enum-known-fault : tie.Need-enum-known-fault
 enum-known-fault c = search needs
@@ -34,16 +34,16 @@ told-of-requires : tie.Need-told-of-requires
 told-of-requires c κs = search needs
 
 returns : tie.Need-returns
-returns c = rw (c .before .enum-told .given .1) (c .told-with .ensures)
+returns c = rw (c .before .enum-told .given .1) (c .plain .ensures)
 
 returns-2 : tie.Need-returns-2
-returns-2 c = rw (c .before .enum-told2 .given .1) (c .told-with2 .ensures)
+returns-2 c = rw (c .before .enum-told2 .given .1) (c .plain2 .ensures)
 
 returns-3 : tie.Need-returns-3
-returns-3 c = rw (c .before .enum-told3 .given .1) (c .told-with3 .ensures)
+returns-3 c = rw (c .before .enum-told3 .given .1) (c .plain3 .ensures)
 
 returns-4 : tie.Need-returns-4
-returns-4 c = rw (c .before .enum-told4 .given .1) (c .told-with4 .ensures)
+returns-4 c = rw (c .before .enum-told4 .given .1) (c .plain4 .ensures)
 
 returns-5 : tie.Need-returns-5
 returns-5 c = search needs
@@ -53,13 +53,13 @@ told-of-spec =
     tie.close
     (tie.spec
     enum-told
-    told-with-requires
+    plain-requires
     enum-told-2
-    told-with-requires-2
+    plain-requires-2
     enum-told-3
-    told-with-requires-3
+    plain-requires-3
     enum-told-4
-    told-with-requires-4
+    plain-requires-4
     enum-known-fault
     told-of-requires
     returns

@@ -3,7 +3,7 @@ use mathlib.Core.Path.{refl, sym, ap, _∙_}
 use native.Mathlib.Omega.{arith}
 use lib.Seq.{length-take-le}
 use Rattle.words.specs.BigEndian.{hasRoom, written}
-use Rattle.wire.specs.Judge.{toldWith}
+use Rattle.wire.specs.Judge.{plain}
 use Rattle.text.specs.declared.findings.Translated.{Translated}
 use Rattle.text.specs.Findings.{finding, toldFault}
 use Rattle.text.specs.ListSteps.{Lined}
@@ -55,7 +55,7 @@ returns c =
     let lines = c .before .before .before in
     let start = lines .before .before .before .before .before .args in
     let lined : Lined _ _ Translated.TooLong = rw (c .enum-told .given .1) at (lines .gather-lines .ensures) in
-    ends-refused (start .raw .now) (start .room .now) (finding (toldWith 20 0) 0) (lined .is) refl
+    ends-refused (start .raw .now) (start .room .now) (finding (plain 20) 0) (lined .is) refl
 
 returns-2 : tie.Need-returns-2
 returns-2 c =

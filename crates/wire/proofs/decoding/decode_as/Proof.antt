@@ -1,7 +1,6 @@
 -- `decode_as` meets its contract: row 6 by the test of the length, rows 7 to 10 by `Answers`, from the row, the fields, the judgement and the kind that
 -- the code holds.
 use mathlib.Core.Path.{sym, ap, _∙_}
-use native.Mathlib.Omega.{arith}
 use borrow.Author.Needs.{needs}
 use borrow.Author.Tests.{eq-eqb, ne-eqb}
 use Rattle.wire.specs.Judge.{toldJudged}
@@ -44,10 +43,9 @@ returns-3 c =
     let sized = padded .before .before .before in
     let start = sized .before .before in
     let a = start .args in
-    let fits = sized .before .struct-known .given in
     simp (eq-eqb _ _ (sized .if1 .left))
     (then-allowed (a .form) (a .encoded .flag) (a .encoded .one) (a .encoded .two) (a .row) (fields .result) (start .pre) (fields .ensures)
-    (omega (arith, fits)) (omega (arith, fits)) (padded .if2 .left) (c .kind-of .result) (c .kind-of .ensures)
+    (padded .if2 .left) (c .kind-of .result) (c .kind-of .ensures)
     (ap toldJudged (sym (c .before .enum-told .given .1)) ∙ judge .judge-by .ensures))
 
 returns-4 : tie.Need-returns-4
@@ -58,10 +56,9 @@ returns-4 c =
     let sized = padded .before .before .before in
     let start = sized .before .before in
     let a = start .args in
-    let fits = sized .before .struct-known .given in
     simp (eq-eqb _ _ (sized .if1 .left))
     (then-refused (a .form) (a .encoded .flag) (a .encoded .one) (a .encoded .two) (a .row) (fields .result) (start .pre) (fields .ensures)
-    (omega (arith, fits)) (omega (arith, fits)) (padded .if2 .left) (c .before .refusal .given .0 .0)
+    (padded .if2 .left) (c .before .refusal .given .0 .0)
     (ap toldJudged (sym (c .before .refusal .given .1)) ∙ judge .judge-by .ensures))
 
 pub decode-as-spec : {M : Type 1} → statement M

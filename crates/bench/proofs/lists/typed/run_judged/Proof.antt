@@ -6,8 +6,9 @@ use native.Mathlib.Omega.{arith}
 use lib.ListN.{length}
 use borrow.Author.Needs.{needs}
 use borrow.Author.Tests.{not-true, not-false}
+use Rattle.report.specs.Record.{recordLength}
 use Rattle.walk.specs.Walk.{rests}
-use Rattle.walk.proofs.Rests.{records-fit}
+use Rattle.walk.proofs.Rests.{records-1024}
 use Rattle.text.specs.declared.findings.Finding.{Finding}
 use Rattle.text.specs.Assemble.{lineNumbers, bytesIn}
 use Rattle.bench.specs.declared.Bench.{Bench}
@@ -82,13 +83,13 @@ judged c =
 
 -- and the records have room.
 fits : (c : tie.Else2) → (let args = entry (c .before .before) .args in
-    (length (rests (args .kit .now)) + length (rests (bytesIn (args .text .now)))) * 8 ≤ length (args .room .now))
+    (length (rests (args .kit .now)) + length (rests (bytesIn (args .text .now)))) * recordLength ≤ length (args .room .now))
 fits c =
     let surveyed = c .before .before in
     let begin = entry surveyed in
     omega (
       arith,
-      records-fit (begin .args .kit .now) (bytesIn (begin .args .text .now)) (begin .pre .0) (judged c .list-short),
+      records-1024 (begin .args .kit .now) (bytesIn (begin .args .text .now)) (begin .pre .0) (judged c .list-short),
       tested surveyed .if1 .left,
     )
 
@@ -128,7 +129,7 @@ first c =
 
 -- The pupil's records have room behind the kit's.
 left-fits : (c : tie.After-run-list)
-    → (c .run-list .result .count + length (rests (bytesIn (entry (passing c .before .before) .args .text .now)))) * 8
+    → (c .run-list .result .count + length (rests (bytesIn (entry (passing c .before .before) .args .text .now)))) * recordLength
     ≤ length (c .run-list .last .1 .1 .1 .1 .0)
 left-fits c =
     let args = entry (passing c .before .before) .args in

@@ -5,6 +5,7 @@ use mathlib.Core.Path.{_≡_, sym, ap, _∙_}
 use native.Mathlib.Omega.{arith}
 use lib.ListN.{length}
 use borrow.Author.Needs.{needs}
+use Rattle.report.specs.Record.{recordLength}
 use Rattle.walk.proofs.Rests.{rests-512}
 use Rattle.wire.specs.declared.kinds.Command.{Command}
 use Rattle.text.specs.Line.{lineOf, answerLine}
@@ -32,8 +33,8 @@ entry c = c .before .before .before
 abbrev turning : tie.After-front Inv-loop μ-loop → tie.In-loop Inv-loop μ-loop
 turning c = c .before .before
 
-abbrev lined : tie.After-told-by Inv-loop μ-loop → tie.After-line-of Inv-loop μ-loop
-lined c = c .before .before .before .before .before
+abbrev lined : tie.After-permitted Inv-loop μ-loop → tie.After-line-of Inv-loop μ-loop
+lined c = c .before .before .before .before
 
 -- The text was judged good.
 judged : (c : tie.At-loop Inv-loop μ-loop) → Passed (entry c .args .text .now)
@@ -116,18 +117,15 @@ enum-known-command c = search needs
 permitted-requires : tie.Need-permitted-requires Inv-loop μ-loop
 permitted-requires c κs = search needs
 
-told-by-requires : tie.Need-told-by-requires Inv-loop μ-loop
-told-by-requires c κs = search needs
+abbrev command : tie.After-permitted Inv-loop μ-loop → Command
+command c = c .before .before .command .given .0 .0
 
-abbrev command : tie.After-told-by Inv-loop μ-loop → Command
-command c = c .before .before .before .command .given .0 .0
-
-says : (c : tie.After-told-by Inv-loop μ-loop) → answerLine (Line.Typed (command c)) ≡ lineOf (lined c .before .front .result .now)
-says c = sym (ap answerLine (c .before .before .before .command .given .1)) ∙ lined c .line-of .ensures
+says : (c : tie.After-permitted Inv-loop μ-loop) → answerLine (Line.Typed (command c)) ≡ lineOf (lined c .before .front .result .now)
+says c = sym (ap answerLine (c .before .before .command .given .1)) ∙ lined c .line-of .ensures
 
 -- Its record has room, and it is one of at most 512.
-next : (c : tie.After-told-by Inv-loop μ-loop)
-    → (let at = turning (lined c .before) .before .loop in (at .count + 1 ≤ 512) × (at .count * 8 + 8 ≤ length (at .room)))
+next : (c : tie.After-permitted Inv-loop μ-loop)
+    → (let at = turning (lined c .before) .before .loop in (at .count + 1 ≤ 512) × (at .count * recordLength + recordLength ≤ length (at .room)))
 next c =
     let turn = turning (lined c .before) in
     let at = turn .before in
@@ -145,17 +143,17 @@ mul-end c = omega (arith, next c)
 add-count : tie.Need-add-count Inv-loop μ-loop
 add-count c = omega (arith, next c)
 
-sub-put-record : tie.Need-sub-put-record Inv-loop μ-loop
-sub-put-record c = omega (arith, next c)
+sub-put-decided : tie.Need-sub-put-decided Inv-loop μ-loop
+sub-put-decided c = omega (arith, next c)
 
-part-put-record-start : tie.Need-part-put-record-start Inv-loop μ-loop
-part-put-record-start c = omega (arith, next c)
+part-put-decided-start : tie.Need-part-put-decided-start Inv-loop μ-loop
+part-put-decided-start c = omega (arith, next c)
 
-part-put-record-end : tie.Need-part-put-record-end Inv-loop μ-loop
-part-put-record-end c = search needs
+part-put-decided-end : tie.Need-part-put-decided-end Inv-loop μ-loop
+part-put-decided-end c = search needs
 
-put-record-requires : tie.Need-put-record-requires Inv-loop μ-loop
-put-record-requires c κs = search needs
+put-decided-requires : tie.Need-put-decided-requires Inv-loop μ-loop
+put-decided-requires c κs = search needs
 
 -- Refused: the bench and the tally stay.
 enum-told-3 : tie.Need-enum-told-3 Inv-loop μ-loop
@@ -167,11 +165,11 @@ loop-less-3 c = omega (arith, turning (lined (c .before .before .before .before 
 loop-again-3 : tie.Need-loop-again-3 Inv-loop μ-loop
 loop-again-3 c =
     let put = c .before .before .before .before in
-    let told = put .before .before in
-    let read = lined told in
+    let decided = put .before .before in
+    let read = lined decided in
     let turn = turning (read .before) in
-    turn-refused (turn .before .loop .inv) (turn .loop-test .taken) (read .before .front .ensures) (says told) (entry (turn .before) .pre .0 .1)
-    (told .before .permitted .result) (told .before .permitted .ensures) (told .told-by .ensures) (put .put-record .ensures .1)
+    turn-refused (turn .before .loop .inv) (turn .loop-test .taken) (read .before .front .ensures) (says decided) (entry (turn .before) .pre .0 .1)
+    (decided .permitted .result) (decided .permitted .ensures) (put .put-decided .ensures)
     (c .enum-told3 .given .1)
 
 -- Accepted: the command takes effect.
@@ -188,12 +186,12 @@ loop-again-4 : tie.Need-loop-again-4 Inv-loop μ-loop
 loop-again-4 c =
     let decision = c .before .before .before in
     let put = decision .before .before .before .before in
-    let told = put .before .before in
-    let read = lined told in
+    let decided = put .before .before in
+    let read = lined decided in
     let turn = turning (read .before) in
     let effect = c .take-effect .ensures in
-    turn-accepted (turn .before .loop .inv) (turn .loop-test .taken) (read .before .front .ensures) (says told) (entry (turn .before) .pre .0 .1)
-    (told .before .permitted .result) (told .before .permitted .ensures) (told .told-by .ensures) (put .put-record .ensures .1)
+    turn-accepted (turn .before .loop .inv) (turn .loop-test .taken) (read .before .front .ensures) (says decided) (entry (turn .before) .pre .0 .1)
+    (decided .permitted .result) (decided .permitted .ensures) (put .put-decided .ensures)
     (decision .decision .given .1) (effect .0) (effect .1)
 
 same-length : tie.Need-same-length Inv-loop μ-loop
@@ -227,14 +225,13 @@ run-lines-spec =
     loop-again-2
     enum-known-command
     permitted-requires
-    told-by-requires
     cast-end
     mul-end
     add-count
-    sub-put-record
-    part-put-record-start
-    part-put-record-end
-    put-record-requires
+    sub-put-decided
+    part-put-decided-start
+    part-put-decided-end
+    put-decided-requires
     enum-told-3
     loop-less-3
     loop-again-3
