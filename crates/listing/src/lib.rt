@@ -123,10 +123,10 @@ fn fields_at(records: &[u8], place: usize) -> Fields
 {
     let at = place * report::RECORD;
     let sender = words::byte_at(records, at);
-    let code = words::byte_at(records, at + 1) as u32;
-    let par = words::byte_at(records, at + 2) as u32;
-    let number = words::word_at(records, at + 4);
-    let value = words::word_at(records, at + 8);
+    let code = words::byte_at(records, at + report::CODE_AT) as u32;
+    let par = words::byte_at(records, at + report::PAR_AT) as u32;
+    let number = words::word_at(records, at + report::NUMBER_AT);
+    let value = words::word_at(records, at + report::VALUE_AT);
     Fields {
         sender,
         number,

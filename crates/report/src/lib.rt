@@ -6,6 +6,15 @@ ghost use Rattle.report.specs.Record.{recordBytes, codeOf, putCode};
 // The bytes of a record.
 pub const RECORD: usize = 12;
 
+// Where its fields begin; the sender is the first.
+pub const CODE_AT: usize = 1;
+
+pub const PAR_AT: usize = 2;
+
+pub const NUMBER_AT: usize = 4;
+
+pub const VALUE_AT: usize = 8;
+
 // The most records of a run, 512 for each of two lists of 4,096 bytes, and the room that they need.
 pub const RECORDS: usize = 1024;
 
