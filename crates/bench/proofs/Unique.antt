@@ -68,7 +68,7 @@ place-told (Verdict.Misread refusal) = refusal-place refusal
 place-told (Verdict.Denied denial) = denial-place denial
 place-told Verdict.Dark = refl
 
--- Two verdicts with the same code and parameter are the same.
+-- Two verdicts of which the same is told are the same.
 one-placed : (a b : Verdict) → placeOf a ≡ placeOf b → verdictOf a ≡ verdictOf b → a ≡ b
 one-placed Verdict.Accepted Verdict.Accepted p e = refl
 one-placed Verdict.Unsound Verdict.Unsound p e = refl

@@ -1,5 +1,7 @@
 -- `wire::judging::plain` meets its contract: nothing was wrong with a number.
+use mathlib.Core.Path.{ap, _∙_}
 use borrow.Author.Needs.{needs}
+use Rattle.wire.specs.Judge.{toldWith}
 use Rattle.wire.proofs.judging.plain.Statement.{statement}
 use Rattle.wire.proofs.judging.plain.Tie as tie
 
@@ -10,7 +12,7 @@ told-with-requires : tie.Need-told-with-requires
 told-with-requires c κs = search needs
 
 returns : tie.Need-returns
-returns c = rw (← c .before .stray-with .ensures) (c .told-with .ensures)
+returns c = c .told-with .ensures ∙ ap (toldWith (c .before .before .args .code)) (c .before .stray-with .ensures)
 
 pub plain-spec : {M : Type 1} → statement M
 plain-spec = tie.close (tie.spec stray-with-requires told-with-requires returns)
