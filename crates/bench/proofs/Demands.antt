@@ -61,7 +61,7 @@ use Rattle.bench.specs.Status.{freshBench, statusOf, benchSound, soundCh
 use Rattle.bench.specs.Carry.{Outcome, row26, effectOf, commandChecks, carryCode, carryOut}
 use Rattle.bench.specs.Carry.{bytesChecks, taken, carryBytesCode, carryOutBytes}
 use Rattle.bench.specs.Second.{secondAt}
-use Rattle.bench.specs.Run.{kitPart, runChecks, runOf, roomAfter}
+use Rattle.bench.specs.Run.{runChecks, runOf, roomAfter}
 use Rattle.bench.specs.Typed.{typedFindings, typedOf, typedRoom}
 use Rattle.bench.specs.Events.{Event, bytes, second, run, typed, afterOne, after, Reached, secondsIn, takesAny, accepts, acceptsAny}
 use Rattle.bench.proofs.Rows as rows

@@ -55,7 +55,8 @@ pub record Behind (all : Listed) (many sender : ℕ) (room₀ room : List ℕ) (
   pub even : length numbers ≡ length rs
   pub counted : n + length rs ≡ many
   pub state : runRests (benchOf w pool) sender numbers rs .bench ≡ all .bench
-  pub records : take (n * recordLength) room ++ written (runRests (benchOf w pool) sender numbers rs .records) (drop (n * recordLength) room) ≡ written (all .records) room₀
+  pub records : take (n * recordLength) room ++ written (runRests (benchOf w pool) sender numbers rs .records) (drop (n * recordLength) room)
+      ≡ written (all .records) room₀
 
 -- The start.
 pub start : (w : Works) (pool : List ℕ) (sender : ℕ) (numbers : List ℕ) (rs : List (List ℕ)) (room : List ℕ) → GoodBench (benchOf w pool)

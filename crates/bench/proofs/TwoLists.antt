@@ -55,7 +55,9 @@ module _ (b : Bench) (kit numbers pupil room : List ℕ) (even : length numbers 
     bench-left = b₂-is ∙ ap (λ (b : Bench). runList b 2 numbers pupil .bench) b₁-is
 
     pupil-put : part ≡ written second (take (length room₁ - m * recordLength) (drop (m * recordLength) room₁))
-    pupil-put = part-is ∙ ap (λ (b : Bench). written (runList b 2 numbers pupil .records) (take (length room₁ - m * recordLength) (drop (m * recordLength) room₁))) b₁-is
+    pupil-put =
+        part-is
+        ∙ ap (λ (b : Bench). written (runList b 2 numbers pupil .records) (take (length room₁ - m * recordLength) (drop (m * recordLength) room₁))) b₁-is
 
     pub both-put : putMid (m * recordLength) (length room₁ - m * recordLength) room₁ part ≡ written (reportWith b kit numbers pupil) room
     both-put =

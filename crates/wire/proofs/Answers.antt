@@ -1,6 +1,6 @@
 -- From one step of the reader to the answer of the whole: a refusal is an answer whose code is not 0, and each row that passes leaves the rows
 -- behind it.
-use Prim.Native.Nat.{ℕ, _*_, _-_, _^_, _≤_, _<_}
+use Prim.Native.Nat.{ℕ, _*_, _-_, _≤_}
 use mathlib.Core.Path.{_≡_, refl, sym, ap, _∙_}
 use mathlib.Core.List.{List, [], _∷_}
 use mathlib.Core.Bool.{Bool, true, false, cond, not, _||_}
@@ -76,7 +76,9 @@ module _ (form : Form) (flag : Bool) (one two : ℕ) (row : Row) (fields : Field
   unfolding decodedAs
   pad-refused h = rw (← same-fields) (simp (ne-eqb (fields .pad) 0 h))
 
-  pub pad-passed : fields .pad ≡ 0 → decodedAs form flag one two ≡ answerFor (firstOf (partChecks flag (partsAs form one two))) (partsAs form one two) (commandAs form flag one two)
+  pub pad-passed : fields .pad ≡ 0
+      → decodedAs form flag one two
+      ≡ answerFor (firstOf (partChecks flag (partsAs form one two))) (partsAs form one two) (commandAs form flag one two)
   unfolding decodedAs
   pad-passed h =
       let none : eqb (fieldsOf (rowOf form .layout) one two .pad) 0 ≡ true = rw (← same-fields) (eq-eqb (fields .pad) 0 h) in

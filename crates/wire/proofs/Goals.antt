@@ -14,9 +14,9 @@ use Rattle.wire.specs.declared.table.Layout.{Layout}
 use Rattle.wire.specs.Table.{rowOf}
 use Rattle.wire.specs.Kind.{partsOf}
 use Rattle.wire.specs.Judge.{inLimits, badIn, partChecks, argChecks}
-use Rattle.wire.specs.Read.{fieldsOf, partsAs, commandAs}
+use Rattle.wire.specs.Read.{partsAs, commandAs}
 use Rattle.wire.proofs.Singles.{low-is-number, high-is-nan}
-use Rattle.wire.proofs.Layouts.{IsBits, BitsIn, fields-within, parts-kind}
+use Rattle.wire.proofs.Layouts.{BitsIn, fields-within, parts-kind}
 
 -- Is a goal value with these bits in range? (The limits are those of the table's row: `goal-judged`, below.)
 abbrev pub goalAllowed : ℕ → Bool

@@ -3,12 +3,12 @@
 use Prim.Native.Nat.{ℕ, suc, _+_, _*_, _%_, _-_, _^_, _≤_, _<_}
 use mathlib.Core.Path.{_≡_, refl, sym, ap, _∙_}
 use mathlib.Core.List.{List, [], _∷_, _++_}
-use mathlib.Core.Bool.{Bool, true, false, cond, not}
+use mathlib.Core.Bool.{Bool, true, false, not}
 use native.Mathlib.Nat.{mod-eq-of-lt}
 use native.Mathlib.Omega.{arith}
 use lib.ListN.{length, getD, take, length-append}
-use lib.Dec.{T, eqb, leb, ltb}
-use lib.Ieee.{binary32, ofBits, toBits, fits}
+use lib.Dec.{T, eqb, leb}
+use lib.Ieee.{binary32, toBits, fits}
 use lib.Ieee.Bits.{ofBits-toBits, ofBits-fits}
 use borrow.Author.Tests.{eqb-true, le-ltb}
 use Rattle.words.specs.BigEndian.{halfAt, wordAt, bytesOf}

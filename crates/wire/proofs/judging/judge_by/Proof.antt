@@ -1,5 +1,5 @@
 -- `wire::judging::judge_by` meets its contract: the first check is the test of the code, and past it the flag's checks decide.
-use mathlib.Core.Path.{_≡_, refl, sym, ap, _∙_}
+use mathlib.Core.Path.{_≡_, refl, ap}
 use mathlib.Core.Bool.{Bool, true, false, cond}
 use borrow.Author.Tests.{ne-eqb}
 use borrow.Author.Needs.{needs}
