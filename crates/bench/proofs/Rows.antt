@@ -8,7 +8,7 @@ use mathlib.Core.Bool.{Bool, true, false, cond, not, _&&_, _||_}
 use native.Mathlib.Omega.{arith}
 use lib.ListN.{length, take}
 use lib.Dec.{eqb, leb, ltb}
-use borrow.Author.Tests.{leb-true, eqb-false, not-true}
+use borrow.Author.Tests.{leb-true}
 use Rattle.words.proofs.Tests.{both}
 use Rattle.words.specs.BigEndian.{wordAt, hasRoom}
 use Rattle.wire.specs.declared.table.Found.{Found}
@@ -19,8 +19,8 @@ use Rattle.wire.specs.Judge.{plain, argChecks}
 use Rattle.wire.specs.Read.{reachChecks, sumDiffers, decodeChecks, opcodeOf, flagOf, lengthOf, thirdWord, readChecks, readCode, saidParts, said}
 use Rattle.wire.specs.Kind.{partsOf}
 use Rattle.wire.specs.declared.kinds.Parts.{Parts}
-use Rattle.wire.proofs.Order.{NoneDue, Order, order, apart}
-use Rattle.wire.proofs.Parameters.{SomeOut, Parameter, RangeRow, parameter, eight, range-args, none-eight, range-read, range-none, range-append, read-eight}
+use Rattle.wire.proofs.Order.{NoneDue, Order, code-lacked, order, apart}
+use Rattle.wire.proofs.Parameters.{SomeOut, Parameter, RangeRow, parameter, eight, range-args, range-read, range-none, range-append, read-eight}
 use Rattle.report.specs.Record.{reportRoom, putCode}
 use Rattle.text.specs.declared.names.Named.{Named}
 use Rattle.text.specs.declared.findings.Finding.{Finding}
@@ -153,27 +153,13 @@ pub lines-order : (text : List ℕ) → FindsFirst (lineFindings 1 (linesOf text
 lines-order text = first-found (lineFindings 1 (linesOf text))
 
 -- On a sound bench it does not find 27: no line has that code.
-abbrev none27 : List Check → Bool
-none27 [] = true
-none27 (c ∷ cs) = not (eqb (c .code) 27) && none27 cs
-
-first-not-27 : (cs : List Check) → none27 cs ≡ true → firstOf cs ≢ 27
-first-not-27 [] h e = absurd (omega arith)
-first-not-27 (c ∷ cs) h e =
-    let parts = both (not (eqb (c .code) 27)) (none27 cs) h in
-    go (c .due) (eqb-false (c .code) 27 (not-true (eqb (c .code) 27) (parts .0))) (first-not-27 cs (parts .1)) e
-  where
-    go : (t : Bool) → c .code ≢ 27 → firstOf cs ≢ 27 → cond t (c .code) (firstOf cs) ≢ 27
-    go true own rest = own
-    go false own rest = rest
-
 line-not-27 : (l : List ℕ) → lineOf l .told .code ≢ 27
 unfolding lineOf typedAs
 line-not-27 l = go (isBlank l) (words (formNamed (nameIn (wordsOf (bodyIn l)))))
   where
     words : (named : Named) → firstOf (lineChecks named (flagIn l) (wordsOf (bodyIn l))) ≢ 27
-    words (Named.Known form) = first-not-27 (lineChecks (Named.Known form) (flagIn l) (wordsOf (bodyIn l))) refl
-    words Named.Unknown = first-not-27 (lineChecks Named.Unknown (flagIn l) (wordsOf (bodyIn l))) refl
+    words (Named.Known form) = code-lacked 27 (lineChecks (Named.Known form) (flagIn l) (wordsOf (bodyIn l))) refl (λ e. omega arith)
+    words Named.Unknown = code-lacked 27 (lineChecks Named.Unknown (flagIn l) (wordsOf (bodyIn l))) refl (λ e. omega arith)
 
     go : (t : Bool) → typedAs (flagIn l) (wordsOf (bodyIn l)) .told .code ≢ 27
         → cond t (record { told = plain 0; taken = [] }) (typedAs (flagIn l) (wordsOf (bodyIn l))) .told .code ≢ 27
@@ -252,7 +238,7 @@ bytes-eight b sound s = (λ e. read-eight s .0 (only (eqb (readCode s) 0) refl (
     code = bytes-code b s sound ∙ read-then b s
 
     only : (passed : Bool) → eqb (readCode s) 0 ≡ passed → cond passed (behindCode b (said s)) (readCode s) ≡ 8 → readCode s ≡ 8
-    only true is e = absurd (none-eight (stateChecks b (said s)) refl e)
+    only true is e = absurd (code-lacked 8 (stateChecks b (said s)) refl (λ zero. omega arith) e)
     only false is e = e
 
     first : readCode s ≡ 8 → cond (eqb (readCode s) 0) (behindCode b (said s)) (readCode s) ≡ 8

@@ -40,7 +40,7 @@ pub record FirstDue (cs : List Check) (n : ℕ) : Type 0 where
   pub code : rowAt cs place .code ≡ n
 
 -- No row of the list has code n.
-abbrev lacks : ℕ → List Check → Bool
+abbrev pub lacks : ℕ → List Check → Bool
 lacks n [] = true
 lacks n (c ∷ cs) = not (eqb (c .code) n) && lacks n cs
 
@@ -77,7 +77,7 @@ due-first (c ∷ cs) n h e = go (c .due) refl e (due-first cs n h)
         }
 
 -- A list that lacks a code has no row with it, and does not give it, unless it is 0.
-lacks-on : (n : ℕ) (c : Check) (cs : List Check) → lacks n (c ∷ cs) ≡ true → (c .code ≢ n) × (lacks n cs ≡ true)
+pub lacks-on : (n : ℕ) (c : Check) (cs : List Check) → lacks n (c ∷ cs) ≡ true → (c .code ≢ n) × (lacks n cs ≡ true)
 lacks-on n c cs h =
     let parts = both (not (eqb (c .code) n)) (lacks n cs) h in
     (eqb-false (c .code) n (not-true (eqb (c .code) n) (parts .0)), parts .1)
@@ -87,7 +87,7 @@ row-lacked n [] k h less = absurd (omega arith)
 row-lacked n (c ∷ cs) zero h less = lacks-on n c cs h .0
 row-lacked n (c ∷ cs) (suc k) h less = row-lacked n cs k (lacks-on n c cs h .1) (omega arith)
 
-code-lacked : (n : ℕ) (cs : List Check) → lacks n cs ≡ true → n ≢ 0 → firstOf cs ≢ n
+pub code-lacked : (n : ℕ) (cs : List Check) → lacks n cs ≡ true → n ≢ 0 → firstOf cs ≢ n
 code-lacked n [] h some e = some (sym e)
 code-lacked n (c ∷ cs) h some e = go (c .due) (lacks-on n c cs h .0) (code-lacked n cs (lacks-on n c cs h .1) some) e
   where

@@ -10,7 +10,7 @@ use native.Mathlib.Omega.{arith}
 use lib.ListN.{length, take}
 use lib.Dec.{eqb, leb, ltb}
 use borrow.Author.Tests.{eqb-true, eqb-false, ne-eqb, leb-false, not-true}
-use Rattle.words.proofs.Tests.{both, neither}
+use Rattle.words.proofs.Tests.{neither}
 use Rattle.words.specs.BigEndian.{wordAt, hasRoom}
 use Rattle.wire.specs.declared.table.Layout.{Layout}
 use Rattle.wire.specs.declared.table.Found.{Found}
@@ -25,7 +25,7 @@ use Rattle.wire.specs.Judge.{strayWith, noStray, toldWith, plain, minusZ
 use Rattle.wire.specs.Read.{opcodeOf, flagOf, lengthOf, thirdWord, sumDiffers, partsAs, decodeChecks, formIn, saidParts}
 use Rattle.wire.specs.Read.{reachChecks, readChecks, readCode, readOf}
 use Rattle.wire.specs.Write.{commandBytes, writeChecks, wroteAt}
-use Rattle.wire.proofs.Order.{rowAt, NoneDue, FirstAt, apart, first-at, at-first}
+use Rattle.wire.proofs.Order.{rowAt, NoneDue, FirstAt, lacks, apart, first-at, lacks-on, code-lacked, at-first}
 
 -- Is the first of two numbers in range by the row of their form, and is the second? (An argument that a command does not have is.)
 abbrev pub firstInRange : Parts → Bool
@@ -230,29 +230,15 @@ range-parts flag parts = (λ e. refl, (λ e. absurd (omega arith), (λ e. absurd
 pub range-args : (c : Command) → RangeRow (partsOf (c .kind)) (argChecks c)
 range-args c = range-parts (c .flag) (partsOf (c .kind))
 
-abbrev pub noEight : List Check → Bool
-noEight [] = true
-noEight (row ∷ rows) = not (eqb (row .code) 8) && noEight rows
-
-pub range-none : (parts : Parts) (rows : List Check) → noEight rows ≡ true → RangeRow parts rows
+pub range-none : (parts : Parts) (rows : List Check) → lacks 8 rows ≡ true → RangeRow parts rows
 range-none parts [] h = tt
 range-none parts (row ∷ rows) h =
-    let tests = both (not (eqb (row .code) 8)) (noEight rows) h in
-    (λ e. absurd (eqb-false (row .code) 8 (not-true (eqb (row .code) 8) (tests .0)) e), range-none parts rows (tests .1))
+    let on = lacks-on 8 row rows h in
+    (λ e. absurd (on .0 e), range-none parts rows (on .1))
 
--- A list without a row 8 does not give 8, and tells of no number.
-pub none-eight : (rows : List Check) → noEight rows ≡ true → firstOf rows ≢ 8
-none-eight [] h e = omega arith
-none-eight (row ∷ rows) h e =
-    let tests = both (not (eqb (row .code) 8)) (noEight rows) h in
-    go (row .due) (eqb-false (row .code) 8 (not-true (eqb (row .code) 8) (tests .0))) (none-eight rows (tests .1)) e
-  where
-    go : (due : Bool) → row .code ≢ 8 → firstOf rows ≢ 8 → cond due (row .code) (firstOf rows) ≢ 8
-    go true own rest = own
-    go false own rest = rest
-
-pub other-told : (parts : Parts) (rows : List Check) → noEight rows ≡ true → toldFor (firstOf rows) parts ≡ plain (firstOf rows)
-other-told parts rows h = rw (ne-eqb (firstOf rows) 8 (none-eight rows h))
+-- A list without a row 8 tells of no number.
+pub other-told : (parts : Parts) (rows : List Check) → lacks 8 rows ≡ true → toldFor (firstOf rows) parts ≡ plain (firstOf rows)
+other-told parts rows h = rw (ne-eqb (firstOf rows) 8 (code-lacked 8 rows h (λ e. omega arith)))
 
 pub range-append : (parts : Parts) (front rows : List Check) → RangeRow parts front → RangeRow parts rows → RangeRow parts (front ++ rows)
 range-append parts [] rows h k = k
