@@ -9,6 +9,7 @@
 
 enum { ROUNDS = 40, LEAST = 2000000 /* ns of one round of one side */, LIST = 4096, RECORD = 12, ROOM = 1024 * RECORD, ROOMS = 2 * ROOM };
 enum { UNTOUCHED = 0xa5 /* what a room is filled with beforehand */ };
+enum { FRAMES = 8, HOUSEKEEPING = 18, APART = 32 /* from one housekeeping frame to the next: what lies between may be left over */ };
 
 static uint8_t commands[256], frames[256];
 
@@ -167,6 +168,34 @@ static void make_frames(void)
     }
 }
 
+/* Eight housekeeping frames with changing numbers. */
+static struct list housekeeping_frames(void)
+{
+    static const uint8_t zeros[HOUSEKEEPING] = { 0x12, 4, 0, 0, 0, 0, 0x13, 4, 0, 0, 0, 0, 0x14, 1, 0, 0x15, 1, 0 };
+    struct list l = { .size = FRAMES * APART };
+    for (unsigned i = 0; i < FRAMES; i++) {
+        uint8_t *f = l.bytes + APART * i;
+        memcpy(f, zeros, HOUSEKEEPING);
+        put32(f + 2, i * 0x01234567u + 512);
+        put32(f + 8, i * 0x00fedcbau);
+        f[14] = (uint8_t)(i * 4);
+        f[17] = (uint8_t)(192 - i * 27);
+    }
+    return l;
+}
+
+/* The same with two tags or lengths of each broken, so many places apart; none apart is one alone. */
+static struct list broken_frames(unsigned apart)
+{
+    static const uint8_t places[FRAMES] = { 0, 1, 6, 7, 12, 13, 15, 16 };
+    struct list l = housekeeping_frames();
+    for (unsigned i = 0; i < FRAMES; i++) {
+        uint8_t *f = l.bytes + APART * i;
+        f[places[i]] = f[places[(i + apart) % FRAMES]] = 0;
+    }
+    return l;
+}
+
 enum layout { BARE, BYTE, HALF, HALVES, SINGLES };
 enum flags { EITHER, NEVER, ALWAYS };
 
@@ -269,12 +298,13 @@ static void bare_line(struct typed *t, unsigned i)
 }
 
 /* One job on both sides. */
-enum which { READ, WRITE, FRAME_READ, FRAME_WRITE, RUNS, SECONDS, ASSEMBLE, LISTING };
+enum which { READ, WRITE, FRAME_READ, FRAME_WRITE, HOUSEKEEPING_READ, HOUSEKEEPING_WRITE, RUNS, SECONDS, ASSEMBLE, LISTING };
 
 struct job {
     const char *name;
     enum which which;
-    struct list kit, pupil; /* of assembling and listing: the first list and the second */
+    struct list kit, pupil; /* of assembling and listing: the first list and the second; of housekeeping: the frames */
+    uint32_t each;          /* of housekeeping: bytes of each frame, or of its room */
     uint32_t units;         /* what one time counts for: commands of a run or of lists, seconds */
     double aim;
     double ours, plain; /* nanoseconds a unit, best of the rounds */
@@ -300,6 +330,12 @@ static uint64_t do_job(const struct job *j, bool ours, uint8_t *room, uint32_t t
         return ours ? timing_frame_read(frames, 256, times) : plain_frame_read(frames, 256, times);
     case FRAME_WRITE:
         return ours ? timing_frame_write(frames, 256, room, ROOM, times) : plain_frame_write(frames, 256, room, ROOM, times);
+    case HOUSEKEEPING_READ:
+        return ours ? timing_housekeeping_read(j->kit.bytes, j->kit.size, j->each, times)
+                    : plain_housekeeping_read(j->kit.bytes, j->kit.size, j->each, times);
+    case HOUSEKEEPING_WRITE:
+        return ours ? timing_housekeeping_write(j->kit.bytes, j->kit.size, room, ROOM, j->each, times)
+                    : plain_housekeeping_write(j->kit.bytes, j->kit.size, room, ROOM, j->each, times);
     case RUNS:
         return ours ? timing_run(j->kit.bytes, j->kit.size, j->pupil.bytes, j->pupil.size, room, ROOM, times)
                     : plain_run(j->kit.bytes, j->kit.size, j->pupil.bytes, j->pupil.size, room, ROOM, times);
@@ -337,16 +373,24 @@ static void best_of(double *best, double time)
     if (time < *best) *best = time;
 }
 
-/* Both sides must give the same. Then they are timed in turn, and each round the other one begins. */
-static void measure(struct job *j)
+/* What each side leaves its bytes in. */
+static uint8_t rooms[2][ROOMS];
+
+/* Both sides must give the same. */
+static void compare(const struct job *j)
 {
-    static uint8_t rooms[2][ROOMS];
     memset(rooms, UNTOUCHED, sizeof rooms);
     uint64_t plain = do_job(j, false, rooms[0], 100), ours = do_job(j, true, rooms[1], 100);
     if (plain != ours || memcmp(rooms[0], rooms[1], ROOMS) != 0) {
         printf("%s: the two sides differ (%016llx, %016llx)\n", j->name, (unsigned long long)plain, (unsigned long long)ours);
         exit(1);
     }
+}
+
+/* Both sides give the same; then they are timed in turn, and each round the other one begins. */
+static void measure(struct job *j)
+{
+    compare(j);
     uint32_t plain_times = enough(j, false, rooms[0]), our_times = enough(j, true, rooms[1]);
     j->ours = j->plain = 1e30;
     for (int round = 0; round < ROUNDS; round++) {
@@ -362,6 +406,50 @@ static struct job run_job(const char *name, void (*put)(struct list *, unsigned)
     struct job j = { .name = name, .which = RUNS, .units = n, .aim = 2.0 };
     for (unsigned i = 0; i < n; i++) put(i < n / 2 ? &j.kit : &j.pupil, i);
     return j;
+}
+
+/* A housekeeping job on these frames, with so many bytes of each or of room for each. */
+static struct job housekeeping_job(const char *name, enum which which, const struct list *frames, uint32_t each)
+{
+    return (struct job){ .name = name, .which = which, .kit = *frames, .each = each, .units = 1, .aim = 1.2 };
+}
+
+/* Housekeeping frames that are refused, which no timed job has: whole and broken ones, cut off at every length and with bytes left over, and written
+   into every room. */
+static void compare_refused_frames(void)
+{
+    static struct job j;
+    for (uint32_t each = 0; each <= APART; each++) {
+        struct list frames = housekeeping_frames();
+        j = housekeeping_job("housekeeping frames cut off or too long", HOUSEKEEPING_READ, &frames, each);
+        compare(&j);
+        j = housekeeping_job("housekeeping frames in little room", HOUSEKEEPING_WRITE, &frames, each);
+        compare(&j);
+        for (unsigned apart = 0; apart < FRAMES; apart++) {
+            frames = broken_frames(apart);
+            j = housekeeping_job("broken housekeeping frames", HOUSEKEEPING_READ, &frames, each);
+            compare(&j);
+        }
+    }
+}
+
+/* Plain commands, of which every fifth has an argument out of range. */
+static void failing_command(struct list *l, unsigned i)
+{
+    if (i % 5 == 2) append(l, 0x0150, false, 3, 5u << 16, 0);
+    else plain_command(l, i);
+}
+
+/* Runs that leave other numbers of the latest run than the timed ones, whose commands are all accepted: no records, one, a failed record that is not
+   the last, a last one that failed, and failed ones of the kit alone. */
+static void compare_failing_runs(void)
+{
+    static const unsigned sizes[] = { 0, 1, 4, 6, 8, 12, 60 };
+    static struct job j;
+    for (unsigned i = 0; i < sizeof sizes / sizeof sizes[0]; i++) {
+        j = run_job("a run with failed commands", failing_command, sizes[i]);
+        compare(&j);
+    }
 }
 
 /* What one job makes is what the other takes, and no byte more. */
@@ -438,29 +526,32 @@ static void print_growth(struct job *jobs, int n, const char *of, const char *he
     }
 }
 
-enum { ALL = 14, SIZES = 3 };
+enum { ALL = 16, SIZES = 3 };
 
 static void make_jobs(struct job *jobs)
 {
+    struct list frames = housekeeping_frames();
     jobs[0] = (struct job){ .name = "reading a command", .which = READ, .units = 1, .aim = 1.0 };
     jobs[1] = (struct job){ .name = "writing a command", .which = WRITE, .units = 1, .aim = 1.2 };
     jobs[2] = (struct job){ .name = "reading a frame", .which = FRAME_READ, .units = 1, .aim = 1.2 };
     jobs[3] = (struct job){ .name = "writing a frame", .which = FRAME_WRITE, .units = 1, .aim = 1.2 };
-    jobs[4] = run_job("a run of 8 plain commands", plain_command, 8);
-    jobs[5] = run_job("a run of 8 macro commands", macro_command, 8);
-    jobs[6] = run_job("a run of 512 plain commands", plain_command, 512);
-    jobs[7] = run_job("a run of 512 macro commands", macro_command, 512);
-    jobs[4].aim = jobs[5].aim = 2.5; /* most of a short run is the judging of the state it starts from */
-    jobs[8] = (struct job){ .name = "600 seconds of an eight-deep macro", .which = SECONDS, .units = 600, .aim = 1.5 };
-    jobs[9] = (struct job){ .name = "600 seconds of 64 entries each", .which = SECONDS, .units = 600, .aim = 1.5 };
-    deep_list(&jobs[8].kit);
-    full_list(&jobs[9].kit);
-    typed_jobs(&jobs[10], &jobs[11], &mixed, 512);
-    typed_jobs(&jobs[12], &jobs[13], &bare, 512);
-    jobs[10].name = "assembling 512 mixed commands";
-    jobs[11].name = "listing 512 mixed commands";
-    jobs[12].name = "assembling 512 bare commands";
-    jobs[13].name = "listing 512 bare commands";
+    jobs[4] = housekeeping_job("reading a housekeeping frame", HOUSEKEEPING_READ, &frames, HOUSEKEEPING);
+    jobs[5] = housekeeping_job("writing a housekeeping frame", HOUSEKEEPING_WRITE, &frames, HOUSEKEEPING);
+    jobs[6] = run_job("a run of 8 plain commands", plain_command, 8);
+    jobs[7] = run_job("a run of 8 macro commands", macro_command, 8);
+    jobs[8] = run_job("a run of 512 plain commands", plain_command, 512);
+    jobs[9] = run_job("a run of 512 macro commands", macro_command, 512);
+    jobs[6].aim = jobs[7].aim = 2.5; /* most of a short run is the judging of the state it starts from */
+    jobs[10] = (struct job){ .name = "600 seconds of an eight-deep macro", .which = SECONDS, .units = 600, .aim = 1.5 };
+    jobs[11] = (struct job){ .name = "600 seconds of 64 entries each", .which = SECONDS, .units = 600, .aim = 1.5 };
+    deep_list(&jobs[10].kit);
+    full_list(&jobs[11].kit);
+    typed_jobs(&jobs[12], &jobs[13], &mixed, 512);
+    typed_jobs(&jobs[14], &jobs[15], &bare, 512);
+    jobs[12].name = "assembling 512 mixed commands";
+    jobs[13].name = "listing 512 mixed commands";
+    jobs[14].name = "assembling 512 bare commands";
+    jobs[15].name = "listing 512 bare commands";
 }
 
 int main(int argc, char **argv)
@@ -471,6 +562,8 @@ int main(int argc, char **argv)
     make_commands();
     make_frames();
     make_jobs(jobs);
+    compare_refused_frames();
+    compare_failing_runs();
     for (int i = 0; i < SIZES; i++) {
         runs[i] = run_job("plain commands", plain_command, sizes[i]);
         runs[SIZES + i] = run_job("macro commands", macro_command, sizes[i]);

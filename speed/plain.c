@@ -1,13 +1,16 @@
 /* The bench of 01-scope.md in plain C, written from that page: the state is one struct that is passed by pointer and changed in place.
    It does the same jobs as crates/timing and folds their results in the same way. Typed lists are assembled and listed by the rules of request Q-1;
    the macros share one pool of entries by those of request Q-9, a second hands over a group of them by those of request Q-2, no picture is asked for
-   with the power off by those of request Q-3, and a number out of range is told with its limits by those of request Q-6. */
+   with the power off by those of request Q-3, a number out of range is told with its limits by those of request Q-6, and the numbers of the latest run
+   are kept, and sent as housekeeping, by those of request Q-11. */
 #include "plain.h"
 #include <stdbool.h>
 #include <string.h>
 
 enum { MACROS = 8, POOL = 192, NONE = 255, LONGEST = 600, GROUP = 64, FOR_EVER = 65535, LIST = 4096, RECORD = 12, ROOM = 1024 * RECORD };
 enum { LAST_PIXEL = 1023, LAST_ALGORITHM = 2, LAST_GOAL = 0x447fffff /* the bits of the largest single below 1024 */ };
+enum { RECEIVED_TAG = 0x12, FAILED_TAG = 0x13, CODE_TAG = 0x14, FREE_TAG = 0x15, HEAD = 2 /* a tag and a length, before each value */ };
+enum { RECEIVED_AT = 0, FAILED_AT = 6, CODE_AT = 12, FREE_AT = 15, HOUSEKEEPING = 18 /* bytes of a whole housekeeping frame */ };
 enum { TEXT = 32768, DIGITS = 5, LISTED = 8192 /* above the 7,846 bytes that a list's text has at most */ };
 
 enum kind {
@@ -29,6 +32,12 @@ struct series {
     uint16_t time, interval, next, count;
 };
 
+/* The number of the last of the pupil's records of a run, and number and code of the last whose code is not 0; 0 where there is none. */
+struct latest {
+    uint32_t received, failed;
+    uint8_t code;
+};
+
 struct bench {
     struct series image, track;
     uint16_t x, y;
@@ -41,6 +50,7 @@ struct bench {
     uint8_t used;              /* how many entries that is in all */
     uint8_t counts[MACROS];    /* 0 for a macro that is neither open nor closed */
     bool closed[MACROS];
+    struct latest latest;      /* of the latest run that was not refused */
 };
 
 struct frame {
@@ -50,6 +60,11 @@ struct frame {
     uint8_t algorithm, flushes, running, opened;
     uint16_t left;
     uint8_t closed;
+};
+
+struct housekeeping {
+    struct latest latest;
+    uint8_t free; /* entries of the pool */
 };
 
 /* An argument out of range: which one it is, 1 or 2, its value, and the lowest and the highest allowed. All zeros where there is none. */
@@ -336,6 +351,52 @@ static uint8_t write_frame(const struct frame *f, uint8_t *room, size_t fits)
     return 0;
 }
 
+/* 47, 48, 49 on the item that begins there. */
+static uint8_t judge_item(const uint8_t *s, size_t size, size_t at, uint8_t tag, uint8_t length)
+{
+    if (size < at + HEAD + length) return 47;
+    if (s[at] != tag) return 48;
+    if (s[at + 1] != length) return 49;
+    return 0;
+}
+
+/* 47 to 49 at each item in turn, then 50. */
+static uint8_t read_housekeeping(const uint8_t *s, size_t size, struct housekeeping *h)
+{
+    uint8_t code = judge_item(s, size, RECEIVED_AT, RECEIVED_TAG, 4);
+    if (code == 0) code = judge_item(s, size, FAILED_AT, FAILED_TAG, 4);
+    if (code == 0) code = judge_item(s, size, CODE_AT, CODE_TAG, 1);
+    if (code == 0) code = judge_item(s, size, FREE_AT, FREE_TAG, 1);
+    if (code != 0) return code;
+    if (size > HOUSEKEEPING) return 50;
+    h->latest.received = get32(s + RECEIVED_AT + HEAD);
+    h->latest.failed = get32(s + FAILED_AT + HEAD);
+    h->latest.code = s[CODE_AT + HEAD];
+    h->free = s[FREE_AT + HEAD];
+    return 0;
+}
+
+static void put_head(uint8_t *s, uint8_t tag, uint8_t length)
+{
+    s[0] = tag;
+    s[1] = length;
+}
+
+/* 24. */
+static uint8_t write_housekeeping(const struct housekeeping *h, uint8_t *room, size_t fits)
+{
+    if (fits < HOUSEKEEPING) return 24;
+    put_head(room + RECEIVED_AT, RECEIVED_TAG, 4);
+    put32(room + RECEIVED_AT + HEAD, h->latest.received);
+    put_head(room + FAILED_AT, FAILED_TAG, 4);
+    put32(room + FAILED_AT + HEAD, h->latest.failed);
+    put_head(room + CODE_AT, CODE_TAG, 1);
+    room[CODE_AT + HEAD] = h->latest.code;
+    put_head(room + FREE_AT, FREE_TAG, 1);
+    room[FREE_AT + HEAD] = h->free;
+    return 0;
+}
+
 static void fresh(struct bench *b)
 {
     memset(b, 0, sizeof *b);
@@ -496,6 +557,16 @@ static bool sound(const struct bench *b, struct span *spans)
     return b->running == NONE || (b->left >= 1 && b->left <= length(&spans[b->running]));
 }
 
+/* 27, else the numbers of the housekeeping frame. */
+static uint8_t housekeeping(const struct bench *b, struct housekeeping *h)
+{
+    struct span spans[MACROS];
+    if (!sound(b, spans)) return 27;
+    h->latest = b->latest;
+    h->free = (uint8_t)(POOL - b->used);
+    return 0;
+}
+
 static void start_series(struct series *s, uint16_t time, uint16_t interval)
 {
     s->time = time;
@@ -601,7 +672,22 @@ static uint32_t run_list(struct bench *b, const uint8_t *list, size_t size, uint
     return count;
 }
 
-/* 20, 21, 27, then the two lists. */
+/* What so many records say, the last of them first. */
+static struct latest latest_of(const uint8_t *records, uint32_t count)
+{
+    struct latest l = { 0 };
+    if (count == 0) return l;
+    const uint8_t *r = records + RECORD * (count - 1);
+    l.received = get32(r + 4);
+    while (r > records && r[1] == 0) r -= RECORD;
+    if (r[1] != 0) {
+        l.failed = get32(r + 4);
+        l.code = r[1];
+    }
+    return l;
+}
+
+/* 20, 21, 27, then the two lists; the pupil's records are what is kept of the run. */
 static uint8_t run(struct bench *b, const uint8_t *kit, size_t kits, const uint8_t *pupil, size_t pupils, uint8_t *room, size_t fits,
                    uint32_t *records)
 {
@@ -611,7 +697,9 @@ static uint8_t run(struct bench *b, const uint8_t *kit, size_t kits, const uint8
     struct span spans[MACROS];
     if (!sound(b, spans)) return 27;
     records[0] = run_list(b, kit, kits, 1, room);
-    records[1] = run_list(b, pupil, pupils, 2, room + RECORD * records[0]);
+    room += RECORD * records[0];
+    records[1] = run_list(b, pupil, pupils, 2, room);
+    b->latest = latest_of(room, records[1]);
     return 0;
 }
 
@@ -947,6 +1035,24 @@ static uint64_t with_status(uint64_t sum, const struct bench *b)
     return with_frame(sum, &f);
 }
 
+static uint64_t with_housekeeping(uint64_t sum, const struct housekeeping *h)
+{
+    sum = mixed(mixed(sum, h->latest.received), h->latest.failed);
+    return mixed(mixed(sum, h->latest.code), h->free);
+}
+
+static uint64_t with_housekept(uint64_t sum, const struct bench *b)
+{
+    struct housekeeping h;
+    uint8_t code = housekeeping(b, &h);
+    return code == 0 ? with_housekeeping(sum, &h) : mixed(sum, code);
+}
+
+static uint64_t with_bench(uint64_t sum, const struct bench *b)
+{
+    return with_housekept(with_status(sum, b), b);
+}
+
 uint64_t plain_read(const uint8_t *bytes, size_t size, uint32_t times)
 {
     uint64_t sum = 0;
@@ -1014,6 +1120,33 @@ uint64_t plain_frame_write(const uint8_t *bytes, size_t size, uint8_t *room, siz
     return sum;
 }
 
+uint64_t plain_housekeeping_read(const uint8_t *bytes, size_t size, uint32_t each, uint32_t times)
+{
+    uint64_t sum = 0;
+    if (size < 256 || each > 32) return 0;
+    for (uint32_t i = 0; i < times; i++) {
+        struct housekeeping h;
+        uint8_t code = read_housekeeping(bytes + i % 8 * 32, each, &h);
+        sum = code == 0 ? with_housekeeping(sum, &h) : mixed(sum, code);
+    }
+    return sum;
+}
+
+uint64_t plain_housekeeping_write(const uint8_t *bytes, size_t size, uint8_t *room, size_t fits, uint32_t each, uint32_t times)
+{
+    struct housekeeping frames[8];
+    uint64_t sum = 0;
+    if (size < 256 || fits < 256 || each > 32) return 0;
+    for (int i = 0; i < 8; i++) {
+        if (read_housekeeping(bytes + i * 32, HOUSEKEEPING, &frames[i]) != 0) frames[i] = (struct housekeeping){ 0 };
+    }
+    for (uint32_t i = 0; i < times; i++) {
+        size_t k = i % 8;
+        sum = mixed(sum, write_housekeeping(&frames[k], room + k * 32, each));
+    }
+    return sum;
+}
+
 uint64_t plain_run(const uint8_t *kit, size_t kits, const uint8_t *pupil, size_t pupils, uint8_t *room, size_t fits, uint32_t times)
 {
     struct bench b;
@@ -1025,7 +1158,7 @@ uint64_t plain_run(const uint8_t *kit, size_t kits, const uint8_t *pupil, size_t
         run(&b, kit, kits, pupil, pupils, room, fits, records);
         sum = mixed(mixed(sum, records[0]), records[1]);
     }
-    return with_status(sum, &b);
+    return with_bench(sum, &b);
 }
 
 uint64_t plain_seconds(const uint8_t *list, size_t size, uint8_t *room, size_t fits, uint32_t seconds, uint32_t times)
@@ -1044,7 +1177,7 @@ uint64_t plain_seconds(const uint8_t *list, size_t size, uint8_t *room, size_t f
             sum = with_group(sum, &handed);
         }
     }
-    return with_status(sum, &b);
+    return with_bench(sum, &b);
 }
 
 uint64_t plain_assemble(const uint8_t *text, size_t size, uint8_t *room, size_t fits, uint32_t times)

@@ -5,12 +5,12 @@ use mathlib.Core.List.{List, [], _∷_, _++_}
 use mathlib.Core.Bool.{cond}
 use lib.ListN.{length, take, drop}
 use lib.Dec.{eqb}
+use Rattle.words.proofs.Front.{Bytes}
 use Rattle.wire.specs.declared.kinds.Command.{Command}
 use Rattle.wire.specs.declared.decoding.Reading.{Reading}
 use Rattle.wire.specs.Judge.{plain}
 use Rattle.wire.specs.Read.{Answer, answerOf, lengthOf, readCode, readOf, said}
 use Rattle.wire.specs.Write.{wroteAt, roomAfter}
-use Rattle.wire.proofs.Front.{Bytes}
 use Rattle.wire.proofs.Calls as commands
 use Rattle.frame.specs.declared.Frame.{Frame}
 use Rattle.frame.specs.Bytes.{frameAt}

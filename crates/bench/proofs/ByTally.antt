@@ -5,14 +5,14 @@ use mathlib.Core.List.{List, _++_}
 use mathlib.Core.Bool.{Bool, true, false, cond}
 use lib.Dec.{eqb}
 use borrow.Author.Tests.{eqb-true}
+use Rattle.words.specs.Codes.{Check, firstOf}
+use Rattle.words.proofs.FirstOf.{Coded, first-append}
 use Rattle.wire.specs.declared.kinds.Command.{Command}
 use Rattle.wire.specs.declared.judging.Told.{Told}
-use Rattle.wire.specs.Codes.{Check, firstOf}
 use Rattle.wire.specs.Judge.{toldFor, argChecks}
 use Rattle.wire.specs.Read.{answerFor, readChecks, saidParts, said}
 use Rattle.wire.specs.Kind.{partsOf}
 use Rattle.wire.specs.declared.kinds.Parts.{Parts}
-use Rattle.wire.proofs.FirstOf.{Coded, first-append}
 use Rattle.store.specs.declared.Store.{Store}
 use Rattle.store.specs.declared.tally.Tally.{Tally}
 use Rattle.store.specs.Checks.{permitCode}
@@ -51,7 +51,7 @@ module _ (b : Bench) (t : Tally) (good : GoodBench b) (is : Tallied (b .store) t
         go true e =
             let passed = accepted (eqb-true code 0 e) in
             rw e
-            (ap (λ (s : Store). record { told = told; bench = record { camera = cameraAfter (b .camera) c; store = s } })
+            (ap (λ (s : Store). record { told = told; bench = record { camera = cameraAfter (b .camera) c; store = s; latest = b .latest } })
             (tallied-effect (b .store) t (good-store b good) is c (passed .judge) (passed .permit)))
         go false e = rw e
 

@@ -7,13 +7,13 @@ use native.Mathlib.Omega.{arith}
 use lib.Dec.{leb, eqb}
 use borrow.Author.Tests.{leb-true, eqb-true, not-false}
 use Rattle.words.proofs.Tests.{both}
+use Rattle.words.proofs.Order.{due-none}
 use Rattle.wire.specs.declared.table.Form.{Form}
 use Rattle.wire.specs.declared.kinds.Kind.{Kind}
 use Rattle.wire.specs.declared.kinds.Command.{Command}
 use Rattle.wire.specs.Table.{rowOf}
 use Rattle.wire.specs.Judge.{firstBad, badIn, argChecks, judgeCode}
 use Rattle.wire.specs.Kind.{partsOf}
-use Rattle.wire.proofs.Order.{due-none}
 use Rattle.frame.proofs.Laws.{region-within, mode-within}
 use Rattle.camera.specs.declared.Camera.{Camera}
 use Rattle.camera.specs.Camera.{isOn, cameraWith, freshCamera, executedOf, cameraSecond, dark}

@@ -33,6 +33,7 @@ use Rattle.store.specs.Pool.{sizeOf, startOf, between, entriesOf, kept}
 use Rattle.store.specs.WrittenOut.{expand, flatBelow, flat, seconds, mostIn, writtenOut}
 use Rattle.store.specs.Effects.{storeWith, freshStore, appliedOf}
 use Rattle.store.specs.Sound.{allBelow, allOf, storeSound}
+use Rattle.report.specs.Latest.{noLatest}
 use Rattle.bench.specs.declared.Bench.{Bench}
 use Rattle.bench.specs.Status.{freshBench, benchSound}
 use Rattle.bench.specs.Carry.{carryOut, taken, carryOutBytes}
@@ -112,11 +113,15 @@ below = fin false 0xffffff (negsuc 13)
 -- A bench that is fresh but for its camera, and one that is fresh but for the words at the front of its pool, the number of entries in each macro,
 -- and the open macro.
 abbrev showing : Camera → Bench
-showing camera = record { camera = camera; store = freshStore }
+showing camera = record { camera = camera; store = freshStore; latest = noLatest }
 
 abbrev holding : List ℕ → List ℕ → ℕ → Bench
 holding words sizes opened =
-    record { camera = freshCamera; store = storeWith (words ++ replicate (576 - length words) 0) sizes (replicate 8 false) opened 255 0 }
+    record {
+      camera = freshCamera;
+      store = storeWith (words ++ replicate (576 - length words) 0) sizes (replicate 8 false) opened 255 0;
+      latest = noLatest;
+    }
 
 -- Power on, and the camera that it leaves; image, 5 s, every 2 s.
 abbrev power-on : List ℕ

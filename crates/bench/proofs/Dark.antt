@@ -1,7 +1,7 @@
 -- 02, Q-3, for a reader: which commands are refused with 26, which entries of a second have no effect, and what does not ask for the power. The meanings
 -- are `dark` (camera, specs/Camera), `row26` (specs/Carry), `handedTo` and `handedCode` (specs/Second).
 use Prim.Native.Nat.{ℕ, zero, suc, _<_}
-use mathlib.Core.Path.{_≡_, refl, sym, ap, _∙_, subst}
+use mathlib.Core.Path.{_≡_, refl, sym, ap, ap₂, _∙_, subst}
 use mathlib.Core.Logic.{_↔_, _⊎_, inl, inr}
 use mathlib.Core.List.{List, [], _∷_, _++_}
 use mathlib.Core.Bool.{Bool, true, false, cond, not, _&&_, false≢true}
@@ -10,14 +10,14 @@ use lib.ListN.{length, getD, take}
 use lib.Seq.{take-all}
 use lib.Dec.{eqb}
 use borrow.Author.Tests.{eqb-true, ltb-true, lt-ltb, not-true}
+use Rattle.words.specs.Codes.{firstOf}
 use Rattle.words.proofs.Tests.{both}
+use Rattle.words.proofs.FirstOf.{first-append}
+use Rattle.words.proofs.Order.{NoneDue, due-none}
 use Rattle.wire.specs.declared.kinds.Kind.{Kind}
 use Rattle.wire.specs.declared.kinds.Command.{Command}
-use Rattle.wire.specs.Codes.{firstOf}
 use Rattle.wire.specs.Judge.{plain, argChecks, judgeCode}
 use Rattle.wire.specs.Kind.{partsOf}
-use Rattle.wire.proofs.FirstOf.{first-append}
-use Rattle.wire.proofs.Order.{NoneDue, due-none}
 use Rattle.camera.specs.declared.Camera.{Camera}
 use Rattle.camera.specs.Camera.{asksPicture, executedOf, cameraSecond, dark}
 use Rattle.store.specs.declared.Store.{Store}
@@ -27,6 +27,7 @@ use Rattle.store.specs.Checks.{storeChecks, permitCode}
 use Rattle.store.specs.Effects.{nextGroup, afterSecond, appliedOf}
 use Rattle.store.proofs.Sound.{second-keeps}
 use Rattle.store.proofs.Handed.{All, Plain, handed-plainly}
+use Rattle.report.specs.declared.Latest.{Latest}
 use Rattle.bench.specs.declared.Bench.{Bench}
 use Rattle.bench.specs.Status.{benchSound}
 use Rattle.bench.specs.Carry.{row26, outcomeFor, carryCode, carryOut}
@@ -193,7 +194,12 @@ series-goes-on c mode = (refl, refl)
 -- The bench as the entry at place i of a second's group finds it: both series have taken their step and the entries before it were handed over. What
 -- the second leaves of the store is there already, for no entry of a group asks for it.
 abbrev pub foundBy : Bench → ℕ → Bench
-foundBy b i = record { camera = executedAll (cameraSecond (b .camera)) (take i (secondAt b .handed)); store = secondAt b .bench .store }
+foundBy b i =
+    record {
+      camera = executedAll (cameraSecond (b .camera)) (take i (secondAt b .handed));
+      store = secondAt b .bench .store;
+      latest = b .latest;
+    }
 
 abbrev pub executing : Kind → Command
 executing k = record { flag = false; kind = k }
@@ -235,7 +241,7 @@ plain-applied s k role = rw role
 -- Executed on a sound bench, such a kind gets the code that an entry has, and does to the camera what an entry does.
 plain-carried : (b : Bench) → GoodBench b → (k : Kind) → Plain k
     → carryOut b (executing k)
-    ≡ record { told = plain (handedCode (b .camera) k); bench = record { camera = handedTo (b .camera) k; store = b .store } }
+    ≡ record { told = plain (handedCode (b .camera) k); bench = record { camera = handedTo (b .camera) k; store = b .store; latest = b .latest } }
 unfolding carryOut
 plain-carried b good k is = ap (λ n. outcomeFor n (partsOf k) b (executing k)) code ∙ go (dark (b .camera .power) k)
   where
@@ -246,10 +252,13 @@ plain-carried b good k is = ap (λ n. outcomeFor n (partsOf k) b (executing k)) 
         (behind-code b (executing k) ∙ ap (λ n. cond (dark (b .camera .power) k) 26 n) (plain-permitted (b .store) k (is .role)))
 
     go : (none : Bool) → outcomeFor (cond none 26 0) (partsOf k) b (executing k)
-        ≡ record { told = plain (cond none 26 0); bench = record { camera = cond none (b .camera) (executedOf (b .camera) k); store = b .store } }
+        ≡ record {
+          told = plain (cond none 26 0);
+          bench = record { camera = cond none (b .camera) (executedOf (b .camera) k); store = b .store; latest = b .latest };
+        }
     go true = refl
     go false =
-        ap (λ (s : Store). record { told = plain 0; bench = record { camera = executedOf (b .camera) k; store = s } })
+        ap (λ (s : Store). record { told = plain 0; bench = record { camera = executedOf (b .camera) k; store = s; latest = b .latest } })
         (plain-applied (b .store) k (is .role))
 
 -- Every bench that an entry finds is sound.
@@ -299,8 +308,9 @@ module _ (b : Bench) (good : GoodBench b) where
       let camera : secondAt b .bench .camera ≡ executedAll (cameraSecond (b .camera)) ks =
       ap (λ (n : Bench). n .camera) (second-is b good) ∙ ap (executedAll (cameraSecond (b .camera))) (sym handed-is)
       in
-      ap (λ (c : Camera). record { camera = c; store = secondAt b .bench .store })
-      (ap (executedAll (cameraSecond (b .camera))) (take-all (length ks) ks (omega arith)) ∙ sym camera)
+      let latest : b .latest ≡ secondAt b .bench .latest = sym (ap (λ (n : Bench). n .latest) (second-is b good)) in
+      ap₂ (λ (c : Camera) (l : Latest). record { camera = c; store = secondAt b .bench .store; latest = l })
+      (ap (executedAll (cameraSecond (b .camera))) (take-all (length ks) ks (omega arith)) ∙ sym camera) latest
 
   module _ (i : ℕ) (there : i < length (secondAt b .handed)) (none : Kind) where
     abbrev kind : Kind
@@ -336,7 +346,7 @@ module _ (b : Bench) (good : GoodBench b) where
           as-executed = executed-there;
           two-codes = rw code-is (either (dark (foundBy b i .camera .power) kind));
           in-vain = λ e.
-              ap (λ (c : Camera). record { camera = c; store = secondAt b .bench .store })
+              ap (λ (c : Camera). record { camera = c; store = secondAt b .bench .store; latest = b .latest })
               (place-camera (cameraSecond (b .camera)) (secondAt b .handed) i none there ∙ rw (is-dark e));
           shown = (λ e. means .0 (is-dark e), λ h. code-is ∙ rw (means .1 h));
         }

@@ -5,16 +5,16 @@ use mathlib.Core.Path.{_≡_, refl, sym, ap, _∙_}
 use mathlib.Core.List.{List, [], _∷_, _++_}
 use mathlib.Core.Bool.{Bool, true, false, cond}
 use lib.Dec.{eqb}
+use Rattle.words.specs.Codes.{firstOf}
+use Rattle.words.proofs.FirstOf.{first-append}
 use Rattle.wire.specs.declared.kinds.Command.{Command}
 use Rattle.wire.specs.declared.judging.Refusal.{Refusal}
 use Rattle.wire.specs.declared.judging.Told.{Told}
 use Rattle.wire.specs.declared.decoding.Reading.{Reading}
-use Rattle.wire.specs.Codes.{firstOf}
 use Rattle.wire.specs.Judge.{plain, toldOf, toldFor, argChecks, judgeCode, judged}
 use Rattle.wire.specs.Read.{Answer, answerOf, answerFor, readCode, readOf, readChecks, saidParts, said}
 use Rattle.wire.specs.Kind.{partsOf}
 use Rattle.wire.specs.declared.kinds.Parts.{Parts}
-use Rattle.wire.proofs.FirstOf.{first-append}
 use Rattle.wire.proofs.Answers.{refusal-code}
 use Rattle.wire.proofs.Parameters.{other-told}
 use Rattle.store.specs.declared.checks.Denial.{Denial}

@@ -1,8 +1,9 @@
 -- The three demands, word for word, and under every clause of them the theorems that carry it. The theorems speak of the meanings that the promises
 -- in src/ name: what `carry_out` answers is `carryOut`, `carry_out_bytes` `carryOutBytes`, `second` `secondAt`, `status` `statusAt`, `free` `freeAt`,
--- `run` `runOf` with the room `roomAfter`, and `run_typed` `typedOf` with the room `typedRoom` (specs/Carry, Second, Status, Run, Typed). What can
--- happen to a bench is a list of events: commands, seconds, runs and runs of typed lists (specs/Events). Read the statements here; what they rest on is
--- proved in Rows, Dark, Back, Sound, FreeEntries, MacroRun, Report, TypedReport and LineShown, and in the crates below.
+-- `housekeeping` `housekeepingAt`, `run` `runOf` with the room `roomAfter`, and `run_typed` `typedOf` with the room `typedRoom` (specs/Carry, Second,
+-- Status, Run, Typed). What can happen to a bench is a list of events: commands, seconds, runs and runs of typed lists (specs/Events). Read the
+-- statements here; what they rest on is proved in Rows, Dark, Back, Sound, FreeEntries, MacroRun, Report, TypedReport, LastNumbers and LineShown, and in
+-- the crates below.
 use Prim.Native.Nat.{ℕ, _+_, _*_, _-_, _≤_, _<_}
 use mathlib.Core.Path.{_≡_, refl, sym, _∙_}
 use mathlib.Core.Logic.{_↔_, _≢_}
@@ -13,16 +14,17 @@ use lib.ListN.{length, getD, take, drop}
 use lib.Dec.{ltb}
 use borrow.Author.Tests.{ne-eqb}
 use Rattle.words.specs.BigEndian.{byteAt, halfAt, wordAt, hasRoom, written}
+use Rattle.words.specs.Codes.{_when_}
+use Rattle.words.proofs.Order.{NoneDue, Order, InOrder}
+use Rattle.words.proofs.Front.{Bytes}
 use Rattle.wire.specs.declared.kinds.Kind.{Kind}
 use Rattle.wire.specs.declared.kinds.Command.{Command}
 use Rattle.wire.specs.declared.decoding.Reading.{Reading}
-use Rattle.wire.specs.Codes.{_when_}
 use Rattle.wire.specs.Judge.{plain}
 use Rattle.wire.specs.Read.{lengthOf, answerOf, readChecks, readOf, saidParts, said}
 use Rattle.wire.specs.Write as writing
 use Rattle.wire.specs.Kind.{partsOf}
-use Rattle.wire.proofs.Order.{NoneDue, Order, read-order, write-order}
-use Rattle.wire.proofs.Front.{Bytes}
+use Rattle.wire.proofs.Order.{read-order, write-order}
 use Rattle.wire.proofs.RoundTrip.{Held}
 use Rattle.wire.proofs.Calls as commands
 use Rattle.wire.proofs.Parameters.{SomeOut, Parameter}
@@ -33,6 +35,13 @@ use Rattle.frame.proofs.Order as frame-order
 use Rattle.frame.proofs.Answers.{takenAs}
 use Rattle.frame.proofs.RoundTrip.{running-byte, left-bytes, read-written}
 use Rattle.frame.proofs.Calls as frame-calls
+use Rattle.housekeeping.specs.declared.Housekeeping.{Housekeeping}
+use Rattle.housekeeping.specs.Frame as housekeeping-frame
+use Rattle.housekeeping.specs.Answers as housekeeping
+use Rattle.housekeeping.proofs.Order as housekeeping-order
+use Rattle.housekeeping.proofs.Answers as housekeeping-answers
+use Rattle.housekeeping.proofs.RoundTrip.{no-other}
+use Rattle.housekeeping.proofs.Calls as housekeeping-calls
 use Rattle.report.specs.Record.{recordBytes, putCode}
 use Rattle.report.proofs.Calls as records
 use Rattle.walk.specs.Walk.{rests}
@@ -45,7 +54,7 @@ use Rattle.text.specs.Assemble as typing
 use Rattle.text.specs.Assemble.{lineNumbers, bytesIn, lineFindings, badLine}
 use Rattle.text.specs.Lister as lister
 use Rattle.text.specs.Shown.{lineShown}
-use Rattle.text.proofs.LineOrder.{InOrder, line-order}
+use Rattle.text.proofs.LineOrder.{line-order}
 use Rattle.text.proofs.FirstFinding.{FindsFirst, first-found}
 use Rattle.text.proofs.Parameters.{partsOfLine, partsOfCommand, assembled-parameter, listed-parameter}
 use Rattle.text.proofs.Calls as texts
@@ -57,11 +66,11 @@ use Rattle.store.specs.WrittenOut.{writtenOut}
 use Rattle.store.specs.Checks.{storeChecks}
 use Rattle.store.proofs.Running.{RunOf, closed-lasts}
 use Rattle.bench.specs.declared.Bench.{Bench}
-use Rattle.bench.specs.Status.{freshBench, statusOf, benchSound, soundCheck, statusAt, freeAt}
+use Rattle.bench.specs.Status.{freshBench, statusOf, benchSound, soundCheck, statusAt, freeAt, housekeepingAt}
 use Rattle.bench.specs.Carry.{Outcome, row26, effectOf, commandChecks, carryCode, carryOut}
 use Rattle.bench.specs.Carry.{bytesChecks, taken, carryBytesCode, carryOutBytes}
 use Rattle.bench.specs.Second.{secondAt}
-use Rattle.bench.specs.Run.{runChecks, runOf, roomAfter}
+use Rattle.bench.specs.Run.{noting, runChecks, runOf, roomAfter}
 use Rattle.bench.specs.Typed.{typedFindings, typedOf, typedRoom}
 use Rattle.bench.specs.Events.{Event, bytes, second, run, typed, afterOne, after, Reached, secondsIn, takesAny, accepts, acceptsAny}
 use Rattle.bench.proofs.Rows as rows
@@ -77,6 +86,8 @@ use Rattle.bench.proofs.Outcomes.{sound-bytes}
 use Rattle.bench.proofs.Report.{Carries, RecordedIn, restAt, recordAt, eventsOf, Untouched, record-carries, record-recorded, kit-record, pupil-record}
 use Rattle.bench.proofs.Report.{kit-verdict, pupil-verdict, run-leaves, run-accepts, run-reaches, refused-leaves, shown-judged}
 use Rattle.bench.proofs.TypedReport as reports
+use Rattle.bench.proofs.LastNumbers.{LastOf, Sends}
+use Rattle.bench.proofs.LastNumbers as latest
 use Rattle.bench.proofs.LineShown.{line-says}
 
 -- # Demand 1
@@ -89,8 +100,9 @@ use Rattle.bench.proofs.LineShown.{line-says}
 -- public ones has a `requires`.
 
 -- "Every entry point judges its own input;"
--- A call that may refuse tries a list of checks on its own input, and `Order` (wire, proofs/Order) says that its code is that of the first check that
--- is due, and 0 exactly when none is. A line of a text has an order of its own (`InOrder`: text, proofs/LineOrder). Assembling, listing and a typed run
+-- A call that may refuse tries a list of checks on its own input, and `Order` (words, proofs/Order) says that its code is that of the first check that
+-- is due, and 0 exactly when none is. Where codes stand out of order or more than once, in a line of a text
+-- and in a housekeeping frame, a row is named by its place (`InOrder`, there too). Assembling, listing and a typed run
 -- have findings, which name a line or a command; `FindsFirst` (text, proofs/FirstFinding) says that the answer is what the first finds that finds
 -- something, and likewise which line of a text is the bad one. Carrying out tries 27 first, and then the rows of demand 2. Every other call has an answer
 -- to every input.
@@ -99,10 +111,13 @@ pub record Judges : Type 0 where
   pub write-command : (c : Command) (room : List ℕ) → Order (writing.writeChecks c room) (writing.wroteAt c room .told .code)
   pub read-frame : (s : List ℕ) → Order (frames.readChecks s) (frames.readOf s .code)
   pub write-frame : (f : Frame) (room : List ℕ) → Order (frames.writeChecks f room) (frames.writeCode f room)
+  pub read-housekeeping : (s : List ℕ) → InOrder (housekeeping.readChecks s) (housekeeping.readOf s .code)
+  pub write-housekeeping : (h : Housekeeping) (room : List ℕ) → Order (housekeeping.writeChecks h room) (housekeeping.writeCode h room)
   pub put-record : (record-bytes room : List ℕ) → Order (24 when not (hasRoom record-bytes room) ∷ []) (putCode record-bytes room)
   pub second : (b : Bench) → Order (soundCheck b ∷ []) (secondAt b .told .code)
   pub status : (b : Bench) → Order (soundCheck b ∷ []) (statusAt b .code)
   pub free : (b : Bench) → Order (soundCheck b ∷ []) (freeAt b .code)
+  pub housekeeping : (b : Bench) → Order (soundCheck b ∷ []) (housekeepingAt b .code)
   pub run : (b : Bench) (kit pupil room : List ℕ) → Order (runChecks b kit pupil room) (runOf b kit pupil room .code)
   pub run-typed : (b : Bench) (kit text room : List ℕ) → FindsFirst (typedFindings b kit text room) (typedOf b kit text room .found)
   pub line : (flag : Bool) (words : List (List ℕ)) → InOrder (lineChecks (formNamed (nameIn words)) flag words) (typedAs flag words .told .code)
@@ -113,17 +128,20 @@ pub record Judges : Type 0 where
   pub carry-out-bytes : (b : Bench) → benchSound b ≡ false → (s : List ℕ) → carryOutBytes b s .told .code ≡ 27
 
 pub demand-1-judges : Judges
-unfolding readOf writing.wroteAt frames.readOf typing.assembledAs lister.listedAs
+unfolding readOf writing.wroteAt frames.readOf housekeeping.readOf typing.assembledAs lister.listedAs
 demand-1-judges =
     record {
       read-command = read-order;
       write-command = write-order;
       read-frame = frame-order.read-order;
       write-frame = frame-order.write-order;
+      read-housekeeping = housekeeping-order.read-order;
+      write-housekeeping = housekeeping-order.write-order;
       put-record = rows.put-order;
       second = rows.second-order;
       status = rows.status-order;
       free = rows.free-order;
+      housekeeping = rows.housekeeping-order;
       run = rows.run-order;
       run-typed = rows.typed-order;
       line = line-order;
@@ -157,7 +175,7 @@ pub demand-1-typed : (b : Bench) (kit text room : List ℕ) → typedOf b kit te
 demand-1-typed b kit text room refused = reports.refused-leaves b kit text room refused
 
 -- "and a refused call writes nothing into lent memory."
--- Beside the runs: `write_command`, `write_frame`, and `put_record`, whose room is `written` with the record's bytes, as the rooms of the writers of
+-- Beside the runs: `write_command`, `write_frame`, `write_housekeeping`, and `put_record`, whose room is `written` with the record's bytes, as the rooms of the writers of
 -- words and of text are with theirs.
 pub demand-1-write-command : (c : Command) (room : List ℕ) → writing.wroteAt c room .told .code ≢ 0 → writing.roomAfter c room ≡ room
 unfolding writing.wroteAt
@@ -165,6 +183,10 @@ demand-1-write-command c room refused = commands.refused-leaves c room refused
 
 pub demand-1-write-frame : (f : Frame) (room : List ℕ) → frames.writeCode f room ≢ 0 → frames.roomAfter f room ≡ room
 demand-1-write-frame f room refused = frame-calls.refused-leaves f room refused
+
+pub demand-1-write-housekeeping : (h : Housekeeping) (room : List ℕ) → housekeeping.writeCode h room ≢ 0
+    → written (housekeeping-frame.frameBytes h) room ≡ room
+demand-1-write-housekeeping h room refused = housekeeping-calls.refused-leaves h room refused
 
 pub demand-1-put-record : (sender code par number value : ℕ) (room : List ℕ) → putCode (recordBytes sender code par number value) room ≢ 0
     → written (recordBytes sender code par number value) room ≡ room
@@ -285,9 +307,38 @@ demand-2-typed-line b kit text room accepted k there =
     rw (reports.same-run b kit text room accepted .pupil-numbers k there)
     (line-says text (reports.passed b kit text room accepted .text-short) k there)
 
--- So the run of a typed list leaves the bench, the counts, the kit's records and the pupil's verdicts of the run of the list that the text says.
+-- So the run of a typed list leaves the bench, but for the numbers of the latest run, the counts, the kit's records and the pupil's verdicts of the run of
+-- the list that the text says.
 pub demand-2-typed-run : (b : Bench) (kit text room : List ℕ) → typedOf b kit text room .found .told .code ≡ 0 → reports.SameRun b kit text room
 demand-2-typed-run b kit text room accepted = reports.same-run b kit text room accepted
+
+-- So whose last command failed can be asked of the bench, too (02, Q-11). As a run ends that was not refused, the numbers of the latest run are those of
+-- the pupil's records, in the report's own bytes: the last record's number, and number and code of the last whose code byte is not 0 (`LastOf`,
+-- LastNumbers). The kit's list has no part in them, and a refused run, a command and a second leave them.
+pub demand-2-latest : (b : Bench) (kit pupil room : List ℕ) → runOf b kit pupil room .code ≡ 0
+    → LastOf (roomAfter b kit pupil room) (length (rests kit)) (length (rests pupil)) (runOf b kit pupil room .bench .latest)
+demand-2-latest b kit pupil room accepted = latest.run-notes b kit pupil room accepted
+
+pub demand-2-latest-typed : (b : Bench) (kit text room : List ℕ) → typedOf b kit text room .found .told .code ≡ 0
+    → LastOf (typedRoom b kit text room) (length (rests kit)) (length (rests (bytesIn text))) (typedOf b kit text room .bench .latest)
+demand-2-latest-typed b kit text room accepted = latest.typed-notes b kit text room accepted
+
+pub record LatestStays (b : Bench) : Type 0 where
+  pub command : (c : Command) → carryOut b c .bench .latest ≡ b .latest
+  pub bytes : (s : List ℕ) → carryOutBytes b s .bench .latest ≡ b .latest
+  pub second : secondAt b .bench .latest ≡ b .latest
+  pub run : (kit pupil room : List ℕ) → runOf b kit pupil room .code ≢ 0 → runOf b kit pupil room .bench .latest ≡ b .latest
+  pub run-typed : (kit text room : List ℕ) → typedOf b kit text room .found .told .code ≢ 0 → typedOf b kit text room .bench .latest ≡ b .latest
+
+pub demand-2-latest-stays : (b : Bench) → LatestStays b
+demand-2-latest-stays b =
+    record {
+      command = latest.command-leaves b;
+      bytes = latest.bytes-leave b;
+      second = latest.second-leaves b;
+      run = latest.run-leaves b;
+      run-typed = latest.typed-leaves b;
+    }
 
 -- So the parameter in byte 2 of every record, and the value in its last four bytes, say of that command what they should beside the code in byte 1.
 
@@ -356,6 +407,20 @@ demand-2-frame-back f room done = frame-calls.write-then-read f room done
 pub demand-2-frame-again : (s : List ℕ) → Bytes s → (f : Frame) → frames.readOf s ≡ takenAs f → (room : List ℕ) → 32 ≤ length room
     → (frames.writeCode f room ≡ 0) × (frames.roomAfter f room ≡ s ++ drop 32 room)
 demand-2-frame-again s are f read room enough = frame-again s are f read room enough
+
+-- The same of housekeeping frames (02, Q-11), whose numbers may have any value; and no other bytes read as these numbers.
+pub demand-2-housekeeping-back : (h : Housekeeping) (room : List ℕ) → housekeeping.writeCode h room ≡ 0
+    → housekeeping.readOf (take 18 (written (housekeeping-frame.frameBytes h) room)) ≡ housekeeping-answers.takenAs h
+demand-2-housekeeping-back h room done = housekeeping-calls.write-then-read h room done
+
+pub demand-2-housekeeping-again : (s : List ℕ) → Bytes s → (h : Housekeeping) → housekeeping.readOf s ≡ housekeeping-answers.takenAs h
+    → (room : List ℕ) → 18 ≤ length room
+    → (housekeeping.writeCode h room ≡ 0) × (written (housekeeping-frame.frameBytes h) room ≡ s ++ drop 18 room)
+demand-2-housekeeping-again s are h read room enough = housekeeping-calls.read-then-write s are h read room enough
+
+pub demand-2-housekeeping-alone : (s : List ℕ) → Bytes s → (h : Housekeeping) → housekeeping.readOf s ≡ housekeeping-answers.takenAs h
+    → s ≡ housekeeping-frame.frameBytes h
+demand-2-housekeeping-alone s are h read = no-other s are h read
 
 -- The same of whole lists in text: a raw list that was listed is assembled to the same bytes; a text that was assembled is listed, into a room of twice
 -- those bytes, and that text assembles to them again. (`textIn`, `listIn`: what stands at the front of the room afterwards.)
@@ -505,7 +570,7 @@ demand-3-run b r kit pupil room carried before s behind stands free m closed rea
     let lasts = closed-lasts (there .store) (good-store there (left-good b good before)) m closed in
     let left = runOf b kit pupil room .bench in
     let all = rests kit ++ rests pupil in
-    let going = run-begins-within b good before s behind free m closed read none all stands left (run-left b kit pupil room carried) in
+    let going = run-begins-within b good before s behind free m closed read none all stands left _ (run-left b kit pupil room carried) in
     runs m (writtenOut (there .store) m) left (event-keeps b good (run kit pupil room)) going (lasts .most)
 
 pub demand-3-typed : (b : Bench) → Reached b → (kit text room : List ℕ) → typedOf b kit text room .found .told .code ≡ 0
@@ -519,7 +584,7 @@ demand-3-typed b r kit text room carried before s behind stands free m closed re
     let lasts = closed-lasts (there .store) (good-store there (left-good b good before)) m closed in
     let left = typedOf b kit text room .bench in
     let all = rests kit ++ rests (bytesIn text) in
-    let going = run-begins-within b good before s behind free m closed read none all stands left (typed-left b kit text room carried) in
+    let going = run-begins-within b good before s behind free m closed read none all stands left _ (typed-left b kit text room carried) in
     runs m (writtenOut (there .store) m) left (event-keeps b good (typed kit text room)) going (lasts .most)
 
 -- "demand 3 still speaks of what is handed over" (02, Q-3): what is said above of kinds is so whatever their codes are. In every second each entry has
@@ -554,7 +619,8 @@ events-keep-soundness b good e = event-keeps b good e
 pub reached-is-sound : (b : Bench) → Reached b → GoodBench b
 reached-is-sound b r = reached-sound b r
 
--- On a sound bench no call answers 27, and the status is a frame that the writer takes and the reader gives back.
+-- On a sound bench no call answers 27, the status is a frame that the writer takes and the reader gives back, and the housekeeping frame's bytes are the
+-- numbers of the latest run and the free entries (`Sends`, LastNumbers).
 pub record Answers (b : Bench) : Type 0 where
   pub command : (c : Command) → carryOut b c .told .code ≢ 27
   pub bytes : (s : List ℕ) → carryOutBytes b s .told .code ≢ 27
@@ -563,6 +629,7 @@ pub record Answers (b : Bench) : Type 0 where
   pub run-typed : (kit text room : List ℕ) → typedOf b kit text room .found .told .code ≢ 27
   pub status : statusAt b ≡ record { code = 0; shown = statusOf b ∷ [] }
   pub free : freeAt b ≡ record { code = 0; free = freeIn (b .store) }
+  pub housekeeping : Sends b
   pub status-written : (room : List ℕ) → 32 ≤ length room
       → (frames.writeCode (statusOf b) room ≡ 0) × (frames.roomAfter (statusOf b) room ≡ frameBytes (statusOf b) ++ drop 32 room)
   pub status-read : frames.readOf (frameBytes (statusOf b)) ≡ takenAs (statusOf b)
@@ -577,19 +644,20 @@ sound-answers b good =
       run-typed = rows.typed-not-27 b (good .sound);
       status = status-answers b good;
       free = free-answers b good;
+      housekeeping = latest.sends b good;
       status-written = status-written b good;
       status-read = read-written (statusOf b) (status-rules b good);
     }
 
 -- A run is an event of its own, and no more than its commands, one after another, each an event from bytes (none where the run is refused): it leaves
--- what they leave, and a RUN or a STOP is accepted in it exactly when it is accepted among them.
+-- what they leave, but for the numbers of the latest run, and a RUN or a STOP is accepted in it exactly when it is accepted among them.
 pub run-is-its-commands : (b : Bench) → GoodBench b → (kit pupil room : List ℕ)
-    → (runOf b kit pupil room .bench ≡ after b (eventsOf b kit pupil room))
+    → (let left = runOf b kit pupil room .bench in left ≡ noting (after b (eventsOf b kit pupil room)) (left .latest))
     × ((test : Role → Bool) → accepts test b (run kit pupil room) ≡ acceptsAny test b (eventsOf b kit pupil room))
 run-is-its-commands b good kit pupil room = (run-leaves b good kit pupil room, run-accepts b good kit pupil room)
 
 pub typed-is-its-commands : (b : Bench) → GoodBench b → (kit text room : List ℕ)
-    → (typedOf b kit text room .bench ≡ after b (reports.typedEvents b kit text room))
+    → (let left = typedOf b kit text room .bench in left ≡ noting (after b (reports.typedEvents b kit text room)) (left .latest))
     × ((test : Role → Bool) → accepts test b (typed kit text room) ≡ acceptsAny test b (reports.typedEvents b kit text room))
 typed-is-its-commands b good kit text room = (reports.typed-leaves b good kit text room, reports.typed-accepts b good kit text room)
 

@@ -1,6 +1,6 @@
 -- The commands of a run in turn, each given as it finds its list and taken on the bench that the one before it left.
 use Prim.Native.Nat.{ℕ, zero, suc, _+_, _<_}
-use mathlib.Core.Path.{_≡_, refl, sym, ap, _∙_}
+use mathlib.Core.Path.{_≡_, refl, sym, ap, _∙_, subst}
 use mathlib.Core.List.{List, [], _∷_, _++_, map}
 use mathlib.Core.Bool.{Bool, true, false, cond}
 use native.Mathlib.Omega.{arith}
@@ -13,9 +13,10 @@ use Rattle.text.specs.Split.{linesOf}
 use Rattle.text.specs.Line.{lineOf}
 use Rattle.text.specs.Assemble.{commandsIn, commandsOf, numbersIn, lineNumbers, bytesIn}
 use Rattle.text.proofs.Assembled.{rests-counted}
+use Rattle.report.specs.declared.Latest.{Latest}
 use Rattle.bench.specs.declared.Bench.{Bench}
 use Rattle.bench.specs.Carry.{taken}
-use Rattle.bench.specs.Run.{numbersFrom, ownNumbers, runRests, kitPart, pupilWith, runCode, runOf}
+use Rattle.bench.specs.Run.{numbersFrom, ownNumbers, runRests, kitPart, pupilWith, noting, endedWith, runCode, runOf}
 use Rattle.bench.specs.Typed.{typedFound, typedOf}
 
 -- The bench that some commands leave.
@@ -76,32 +77,38 @@ pub both-left : (b : Bench) (kit numbers pupil : List ℕ) → length numbers �
     → pupilWith b kit numbers pupil .bench ≡ leftBy b (rests kit ++ rests pupil)
 both-left b kit numbers pupil even = list-leaves (kitPart b kit .bench) 2 numbers (rests pupil) even ∙ kit-then b kit (rests pupil)
 
--- So a run that is carried out leaves what its commands leave, and so does the run of a typed list.
+-- So a run that is carried out leaves what its commands leave, and the numbers of the latest run besides; so does the run of a typed list.
+pub both-ended : (b : Bench) (kit numbers pupil : List ℕ) → length numbers ≡ length (rests pupil)
+    → endedWith b kit numbers pupil ≡ noting (leftBy b (rests kit ++ rests pupil)) (endedWith b kit numbers pupil .latest)
+both-ended b kit numbers pupil even = ap (λ c. noting c (endedWith b kit numbers pupil .latest)) (both-left b kit numbers pupil even)
+
 pub run-left : (b : Bench) (kit pupil room : List ℕ) → runOf b kit pupil room .code ≡ 0
-    → runOf b kit pupil room .bench ≡ leftBy b (rests kit ++ rests pupil)
+    → runOf b kit pupil room .bench ≡ noting (leftBy b (rests kit ++ rests pupil)) (endedWith b kit (ownNumbers pupil) pupil .latest)
 unfolding runOf
-run-left b kit pupil room accepted = rw accepted (both-left b kit (ownNumbers pupil) pupil (own-even pupil))
+run-left b kit pupil room accepted = rw accepted (both-ended b kit (ownNumbers pupil) pupil (own-even pupil))
 
 pub typed-left : (b : Bench) (kit text room : List ℕ) → typedOf b kit text room .found .told .code ≡ 0
-    → typedOf b kit text room .bench ≡ leftBy b (rests kit ++ rests (bytesIn text))
+    → typedOf b kit text room .bench ≡ noting (leftBy b (rests kit ++ rests (bytesIn text))) (endedWith b kit (lineNumbers text) (bytesIn text) .latest)
 unfolding typedOf
-typed-left b kit text room accepted = rw accepted (both-left b kit (lineNumbers text) (bytesIn text) (typed-even text))
+typed-left b kit text room accepted = rw accepted (both-ended b kit (lineNumbers text) (bytesIn text) (typed-even text))
 
--- A run does one of two things: it leaves the bench, or it is carried out and leaves what its commands leave.
-by-lists : (P : Bench → Type 0) (b : Bench) (kit numbers pupil : List ℕ) → length numbers ≡ length (rests pupil) → (code : ℕ)
-    → P b → (code ≡ 0 → P (leftBy b (rests kit ++ rests pupil))) → P (cond (eqb code 0) (pupilWith b kit numbers pupil .bench) b)
-by-lists P b kit numbers pupil even code stays goes = go (eqb code 0) refl
-  where
-    go : (t : Bool) → eqb code 0 ≡ t → P (cond t (pupilWith b kit numbers pupil .bench) b)
-    go true e = rw (both-left b kit numbers pupil even) (goes (eqb-true code 0 e))
-    go false e = stays
+-- A run does one of two things: it leaves the bench, or it is carried out and leaves what its commands leave. What is asked of the bench must not hang
+-- on the numbers of the latest run.
+module _ (P : Bench → Type 0) (notes : (b : Bench) (latest : Latest) → P b → P (noting b latest)) where
+  by-lists : (b : Bench) (kit numbers pupil : List ℕ) → length numbers ≡ length (rests pupil) → (code : ℕ)
+      → P b → (code ≡ 0 → P (leftBy b (rests kit ++ rests pupil))) → P (cond (eqb code 0) (endedWith b kit numbers pupil) b)
+  by-lists b kit numbers pupil even code stays goes = go (eqb code 0) refl
+    where
+      go : (t : Bool) → eqb code 0 ≡ t → P (cond t (endedWith b kit numbers pupil) b)
+      go true e = subst P (sym (both-ended b kit numbers pupil even)) (notes _ (endedWith b kit numbers pupil .latest) (goes (eqb-true code 0 e)))
+      go false e = stays
 
-pub by-run : (P : Bench → Type 0) (b : Bench) (kit pupil room : List ℕ)
-    → P b → (runCode b kit pupil room ≡ 0 → P (leftBy b (rests kit ++ rests pupil))) → P (runOf b kit pupil room .bench)
-unfolding runOf
-by-run P b kit pupil room = by-lists P b kit (ownNumbers pupil) pupil (own-even pupil) (runCode b kit pupil room)
+  pub by-run : (b : Bench) (kit pupil room : List ℕ)
+      → P b → (runCode b kit pupil room ≡ 0 → P (leftBy b (rests kit ++ rests pupil))) → P (runOf b kit pupil room .bench)
+  unfolding runOf
+  by-run b kit pupil room = by-lists b kit (ownNumbers pupil) pupil (own-even pupil) (runCode b kit pupil room)
 
-pub by-typed : (P : Bench → Type 0) (b : Bench) (kit text room : List ℕ)
-    → P b → (typedFound b kit text room .told .code ≡ 0 → P (leftBy b (rests kit ++ rests (bytesIn text)))) → P (typedOf b kit text room .bench)
-unfolding typedOf
-by-typed P b kit text room = by-lists P b kit (lineNumbers text) (bytesIn text) (typed-even text) (typedFound b kit text room .told .code)
+  pub by-typed : (b : Bench) (kit text room : List ℕ)
+      → P b → (typedFound b kit text room .told .code ≡ 0 → P (leftBy b (rests kit ++ rests (bytesIn text)))) → P (typedOf b kit text room .bench)
+  unfolding typedOf
+  by-typed b kit text room = by-lists b kit (lineNumbers text) (bytesIn text) (typed-even text) (typedFound b kit text room .told .code)

@@ -164,6 +164,7 @@ module _ (b : Bench) (step : Step) (rules : rulesHold b ≡ true) (stepped : ste
             bench = record {
               camera = done .camera;
               store = storeWith (b .store .pool) (b .store .counts) (b .store .closed) (b .store .opened) (step .running) (step .left);
+              latest = b .latest;
             };
             handed = kindsIn (step .group);
             codes = take (step .group .count) (done .codes);

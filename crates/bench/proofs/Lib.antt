@@ -7,6 +7,7 @@ pub mod Dark
 pub mod FreeEntries
 pub mod Report
 pub mod TypedReport
+pub mod LastNumbers
 pub mod LineShown
 pub mod Slips
 pub mod Unique
@@ -30,3 +31,4 @@ mod RawList
 mod TypedList
 mod TypedRun
 mod TwoLists
+mod Ending

@@ -7,8 +7,8 @@ use native.Mathlib.Omega.{arith}
 use lib.ListN.{length, getD}
 use lib.Dec.{eqb}
 use borrow.Author.Tests.{le-leb, lt-ltb}
+use Rattle.words.specs.Codes.{firstOf}
 use Rattle.wire.specs.declared.kinds.Command.{Command}
-use Rattle.wire.specs.Codes.{firstOf}
 use Rattle.wire.specs.Judge.{plain}
 use Rattle.wire.specs.Read.{Answer, said}
 use Rattle.wire.specs.Write.{listBytes}

@@ -25,9 +25,11 @@ use Rattle.store.specs.Checks.{permitCode}
 use Rattle.store.specs.Effects.{nextGroup, afterSecond}
 use Rattle.store.proofs.Sound.{closed-small}
 use Rattle.store.proofs.Running.{RunOf, run-starts, run-stays, RunSecond, run-second, applied-idle, second-idle}
+use Rattle.report.specs.declared.Latest.{Latest}
 use Rattle.bench.specs.declared.Bench.{Bench}
 use Rattle.bench.specs.Carry.{Outcome, outcomeFor, effectOf, carryCode, carryOut, taken, carryBytesCode, carryOutBytes}
 use Rattle.bench.specs.Second.{secondAt}
+use Rattle.bench.specs.Run.{noting}
 use Rattle.bench.specs.Events.{Event, command, bytes, second, run, typed, afterOne, after, secondsIn}
 use Rattle.bench.specs.Events.{executes, takes, takesAny, accepts, acceptsAny}
 use Rattle.bench.proofs.Outcomes.{behindCode, behind-code, carry-code, read-then, carry-bytes-code, sound-bytes}
@@ -52,7 +54,7 @@ module _ (test : Role → Bool) (P : Bench → Type 0)
   bytes-keep : (b : Bench) → GoodBench b → P b → (s : List ℕ) → accepts test b (bytes s) ≡ false → P (afterOne b (bytes s))
   bytes-keep b good holds s none = by-bytes P b good s holds (taking b good holds (carryBytesCode b s) (said s) none)
 
-  -- The commands of a run in turn, and the run.
+  -- The commands of a run in turn, and the run, where what is kept does not hang on the numbers of the latest run.
   turns-keep : (b : Bench) → GoodBench b → P b → (rs : List (List ℕ)) → takesAny test b rs ≡ false → P (leftBy b rs)
   turns-keep b good holds [] none = holds
   turns-keep b good holds (r ∷ rs) none =
@@ -60,15 +62,16 @@ module _ (test : Role → Bool) (P : Bench → Type 0)
       let next = by-taken P b r holds (taking b good holds (taken b r .told .code) (said r) (parts .0)) in
       turns-keep (taken b r .bench) (taken-good b good r) next rs (parts .1)
 
-  run-keeps : (b : Bench) → GoodBench b → P b → (kit pupil room : List ℕ) → accepts test b (run kit pupil room) ≡ false
-      → P (afterOne b (run kit pupil room))
-  run-keeps b good holds kit pupil room none =
-      by-run P b kit pupil room holds (λ zero. turns-keep b good holds (rests kit ++ rests pupil) (rw zero at none))
+  module _ (notes : (b : Bench) (latest : Latest) → P b → P (noting b latest)) where
+    run-keeps : (b : Bench) → GoodBench b → P b → (kit pupil room : List ℕ) → accepts test b (run kit pupil room) ≡ false
+        → P (afterOne b (run kit pupil room))
+    run-keeps b good holds kit pupil room none =
+        by-run P notes b kit pupil room holds (λ zero. turns-keep b good holds (rests kit ++ rests pupil) (rw zero at none))
 
-  typed-keeps : (b : Bench) → GoodBench b → P b → (kit text room : List ℕ) → accepts test b (typed kit text room) ≡ false
-      → P (afterOne b (typed kit text room))
-  typed-keeps b good holds kit text room none =
-      by-typed P b kit text room holds (λ zero. turns-keep b good holds (rests kit ++ rests (bytesIn text)) (rw zero at none))
+    typed-keeps : (b : Bench) → GoodBench b → P b → (kit text room : List ℕ) → accepts test b (typed kit text room) ≡ false
+        → P (afterOne b (typed kit text room))
+    typed-keeps b good holds kit text room none =
+        by-typed P notes b kit text room holds (λ zero. turns-keep b good holds (rests kit ++ rests (bytesIn text)) (rw zero at none))
 
 -- An accepted command that is no STOP leaves a running macro as it was, and a second takes it one group on.
 module _ (m : ℕ) (w : List (List Kind)) (k : ℕ) where
@@ -97,12 +100,12 @@ runs-on m w k b good runs (second ∷ es) none n e less =
 runs-on m w k b good runs (run kit pupil room ∷ es) none n e less =
     let whole = run kit pupil room in
     let parts = neither (accepts isStop b whole) (acceptsAny isStop (afterOne b whole) es) none in
-    let next = run-keeps isStop (Runs m w k) (effect-stays m w k) b good runs kit pupil room (parts .0) in
+    let next = run-keeps isStop (Runs m w k) (effect-stays m w k) (λ b latest runs. runs) b good runs kit pupil room (parts .0) in
     runs-on m w k (afterOne b whole) (event-keeps b good whole) next es (parts .1) n e less
 runs-on m w k b good runs (typed kit text room ∷ es) none n e less =
     let whole = typed kit text room in
     let parts = neither (accepts isStop b whole) (acceptsAny isStop (afterOne b whole) es) none in
-    let next = typed-keeps isStop (Runs m w k) (effect-stays m w k) b good runs kit text room (parts .0) in
+    let next = typed-keeps isStop (Runs m w k) (effect-stays m w k) (λ b latest runs. runs) b good runs kit text room (parts .0) in
     runs-on m w k (afterOne b whole) (event-keeps b good whole) next es (parts .1) n e less
 
 -- An idle bench stays idle under every command that is accepted and is no RUN, and in every second.
@@ -117,8 +120,8 @@ event-idle b good free (command c) none = command-keeps isRun Idle effect-idle b
 event-idle b good free (bytes s) none = bytes-keep isRun Idle effect-idle b good free s none
 event-idle b good free second none =
     ap (λ (b : Bench). b .store .running) (second-is b good) ∙ ap (λ (s : Store). s .running) (second-idle (b .store) free .1) ∙ free
-event-idle b good free (run kit pupil room) none = run-keeps isRun Idle effect-idle b good free kit pupil room none
-event-idle b good free (typed kit text room) none = typed-keeps isRun Idle effect-idle b good free kit text room none
+event-idle b good free (run kit pupil room) none = run-keeps isRun Idle effect-idle (λ b latest free. free) b good free kit pupil room none
+event-idle b good free (typed kit text room) none = typed-keeps isRun Idle effect-idle (λ b latest free. free) b good free kit text room none
 
 pub stays-idle : (b : Bench) → GoodBench b → Idle b → (es : List Event) → acceptsAny isRun b es ≡ false → Idle (after b es)
 stays-idle b good free [] none = free
@@ -187,8 +190,9 @@ module _ (b : Bench) (good : GoodBench b) (before : List (List ℕ)) (s : List �
 
   pub run-begins-within : (free : Idle there) (m : ℕ) (closed : isClosed (there .store) m ≡ true) → readOf s ≡ answerOf (Reading.Taken (runCommand m))
       → takesAny isStop (taken there s .bench) behind ≡ false
-      → (rs : List (List ℕ)) → rs ≡ before ++ (s ∷ behind) → (left : Bench) → left ≡ leftBy b rs → Runs m (writtenOut (there .store) m) 0 left
-  run-begins-within free m closed read none rs stands left is =
+      → (rs : List (List ℕ)) → rs ≡ before ++ (s ∷ behind) → (left : Bench) (latest : Latest) → left ≡ noting (leftBy b rs) latest
+      → Runs m (writtenOut (there .store) m) 0 left
+  run-begins-within free m closed read none rs stands left latest is =
       let w = writtenOut (there .store) m in
       let sound = left-good b good before in
       let start = taken there s .bench in
@@ -196,7 +200,7 @@ module _ (b : Bench) (good : GoodBench b) (before : List (List ℕ)) (s : List �
       let first : Runs m w 0 start = rw starts (run-begins there sound free m closed) in
       let last = turns-keep isStop (Runs m w 0) (effect-stays m w 0) start (taken-good there sound s) first behind none in
       let all : leftBy b rs ≡ leftBy start behind = ap (leftBy b) stands ∙ sym (left-append b before (s ∷ behind)) in
-      subst (Runs m w 0) (sym (is ∙ all)) last
+      subst (Runs m w 0) (sym (is ∙ ap (λ c. noting c latest) all)) last
 
 -- A macro that was started, and events up to second k with no STOP accepted: what that second hands over, and what it leaves.
 module _ (m : ℕ) (w : List (List Kind)) (start : Bench) (good : GoodBench start) (runs : Runs m w 0 start)

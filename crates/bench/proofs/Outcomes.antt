@@ -5,17 +5,17 @@ use mathlib.Core.List.{List}
 use mathlib.Core.Bool.{Bool, true, false, cond}
 use native.Mathlib.Omega.{arith}
 use lib.Dec.{eqb}
+use Rattle.words.specs.Codes.{firstOf}
+use Rattle.words.specs.BigEndian.{wordAt}
+use Rattle.words.proofs.FirstOf.{Coded, first-append}
 use Rattle.wire.specs.declared.kinds.Command.{Command}
 use Rattle.wire.specs.declared.table.Found.{Found}
 use Rattle.wire.specs.declared.judging.Told.{Told}
-use Rattle.wire.specs.Codes.{firstOf}
 use Rattle.wire.specs.Table.{ruleOf}
 use Rattle.wire.specs.Judge.{plain, toldFor, argChecks, judgeCode}
 use Rattle.wire.specs.Read.{readCode, readChecks, decodeChecks, opcodeOf, flagOf, lengthOf, thirdWord, saidParts, said}
 use Rattle.wire.specs.declared.kinds.Parts.{Parts}
-use Rattle.wire.proofs.FirstOf.{Coded, first-append}
 use Rattle.wire.proofs.Parameters.{other-told}
-use Rattle.words.specs.BigEndian.{wordAt}
 use Rattle.store.specs.Checks.{permitCode}
 use Rattle.bench.specs.declared.Bench.{Bench}
 use Rattle.bench.specs.Status.{benchSound}

@@ -6,9 +6,9 @@ use mathlib.Core.List.{List, [], _∷_}
 use mathlib.Core.Bool.{Bool, true, false, cond}
 use lib.Dec.{eqb}
 use borrow.Author.Tests.{eqb-true}
+use Rattle.words.specs.Codes.{firstOf}
 use Rattle.wire.specs.declared.kinds.Command.{Command}
 use Rattle.wire.specs.declared.decoding.Reading.{Reading}
-use Rattle.wire.specs.Codes.{firstOf}
 use Rattle.wire.specs.Read.{Answer, answerOf, answerFor, readCode, readOf, saidParts, said}
 use Rattle.wire.specs.Judge.{plain}
 use Rattle.walk.proofs.Shows.{first, own-read}

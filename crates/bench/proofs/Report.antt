@@ -10,12 +10,12 @@ use lib.ListN.{length, getD, take, drop, length-append}
 use lib.Seq.{drop-drop, drop-append-add, drop-at}
 use lib.Dec.{eqb, ltb}
 use borrow.Author.Tests.{ltb-false, ne-eqb, not-false}
-use Rattle.words.proofs.Tests.{neither}
 use Rattle.words.specs.BigEndian.{wordAt, byteAt, written}
+use Rattle.words.proofs.Tests.{neither}
 use Rattle.words.proofs.Laws.{with-room}
+use Rattle.words.proofs.Order.{due-none}
 use Rattle.wire.specs.declared.judging.Told.{Told}
 use Rattle.wire.specs.Read.{saidParts, said}
-use Rattle.wire.proofs.Order.{due-none}
 use Rattle.wire.proofs.Parameters.{Parameter, Recorded, recorded}
 use Rattle.walk.specs.Walk.{rests}
 use Rattle.walk.specs.Shown.{listOf, shownOf}
@@ -27,7 +27,7 @@ use Rattle.bench.specs.declared.Bench.{Bench}
 use Rattle.bench.specs.Status.{freshBench, benchSound}
 use Rattle.bench.specs.Carry.{Outcome, taken, carryOutBytes}
 use Rattle.bench.specs.Events.{Event, bytes, run, after, Reached, takes, takesAny, accepts, acceptsAny}
-use Rattle.bench.specs.Run.{ownNumbers, recordOf, runRests, ownList, kitPart, pupilWith, pupilPart, reportWith, reportOf}
+use Rattle.bench.specs.Run.{ownNumbers, recordOf, runRests, ownList, kitPart, pupilWith, noting, endedWith, reportWith, reportOf}
 use Rattle.bench.specs.Run.{runChecks, runCode, runOf, roomAfter}
 use Rattle.bench.proofs.Outcomes.{sound-bytes}
 use Rattle.bench.proofs.InTurn.{leftBy, own-even, own-number, kit-then, both-left}
@@ -56,7 +56,7 @@ pub list-long : (b : Bench) (sender : ℕ) (s : List ℕ) → length (ownList b 
 list-long b sender s = records-long b sender (ownNumbers s) (rests s) (own-even s)
 
 -- The record at a place of a list's records, whatever its numbers: that sender, the verdict on the command there, and the number there.
-numbered-record : (b : Bench) (sender : ℕ) (numbers : List ℕ) (rs : List (List ℕ)) → length numbers ≡ length rs → (k : ℕ) → k < length rs
+pub numbered-record : (b : Bench) (sender : ℕ) (numbers : List ℕ) (rs : List (List ℕ)) → length numbers ≡ length rs → (k : ℕ) → k < length rs
     → recordAt (runRests b sender numbers rs .records) k ≡ recordOf sender (taken (leftBy b (take k rs)) (getD rs k []) .told) (getD numbers k 0)
 unfolding runRests
 numbered-record b sender [] [] even k there = absurd (omega arith)
@@ -193,8 +193,8 @@ module _ (b : Bench) (kit pupil room : List ℕ) (accepted : runOf b kit pupil r
   unfolding runOf
   pupil-count = rw accepted
 
-  -- The bench is the one that the pupil's list leaves, begun on the one that the kit's list left.
-  pub bench-after : runOf b kit pupil room .bench ≡ pupilPart b kit pupil .bench
+  -- The bench is the one that the pupil's list leaves, begun on the one that the kit's list left, with the numbers of this run.
+  pub bench-after : runOf b kit pupil room .bench ≡ endedWith b kit (ownNumbers pupil) pupil
   unfolding runOf
   bench-after = rw accepted
 
@@ -262,11 +262,13 @@ module _ (b : Bench) (good : GoodBench b) (kit pupil : List ℕ) where
       ap (λ c. taken c (restAt pupil k) .told) (kit-then b kit (take k (rests pupil)))
       ∙ told-after (rests kit ++ take k (rests pupil)) (restAt pupil k)
 
-  -- Two lists leave exactly the state of carrying out their commands one after another, and accept what those accept, carried out or not, and
-  -- whatever the numbers of the pupil's records.
+  -- Two lists leave exactly the state of carrying out their commands one after another, but for the numbers of the latest run, and accept what those
+  -- accept, carried out or not, and whatever the numbers of the pupil's records.
   pub lists-leave : (numbers : List ℕ) → length numbers ≡ length (rests pupil) → (carried : Bool)
-      → cond carried (pupilWith b kit numbers pupil .bench) b ≡ after b (cond carried (commandsOf kit pupil) [])
-  lists-leave numbers even true = both-left b kit numbers pupil even ∙ left-after b good (rests kit ++ rests pupil)
+      → let left = cond carried (endedWith b kit numbers pupil) b in
+      left ≡ noting (after b (cond carried (commandsOf kit pupil) [])) (left .latest)
+  lists-leave numbers even true =
+      ap (λ c. noting c (endedWith b kit numbers pupil .latest)) (both-left b kit numbers pupil even ∙ left-after b good (rests kit ++ rests pupil))
   lists-leave numbers even false = refl
 
   pub lists-accept : (test : Role → Bool) (carried : Bool)
@@ -274,8 +276,9 @@ module _ (b : Bench) (good : GoodBench b) (kit pupil : List ℕ) where
   lists-accept test true = takes-after test b good (rests kit ++ rests pupil)
   lists-accept test false = refl
 
-  -- So a run is no more than its commands, refused or not: it leaves what they leave, and accepts what they accept.
-  pub run-leaves : (room : List ℕ) → runOf b kit pupil room .bench ≡ after b (eventsOf b kit pupil room)
+  -- So a run is no more than its commands, refused or not: it leaves what they leave, but for the numbers of the latest run, and accepts what they
+  -- accept.
+  pub run-leaves : (room : List ℕ) → let left = runOf b kit pupil room .bench in left ≡ noting (after b (eventsOf b kit pupil room)) (left .latest)
   unfolding runOf
   run-leaves room = lists-leave (ownNumbers pupil) (own-even pupil) (eqb (runCode b kit pupil room) 0)
 

@@ -9,17 +9,17 @@ use native.Mathlib.Omega.{arith}
 use lib.ListN.{length, take}
 use lib.Dec.{eqb, leb, ltb}
 use borrow.Author.Tests.{leb-true}
-use Rattle.words.proofs.Tests.{both}
 use Rattle.words.specs.BigEndian.{wordAt, hasRoom}
+use Rattle.words.specs.Codes.{Check, _when_, firstOf}
+use Rattle.words.proofs.Tests.{both}
+use Rattle.words.proofs.Order.{NoneDue, Order, code-lacked, order, apart}
 use Rattle.wire.specs.declared.table.Found.{Found}
 use Rattle.wire.specs.declared.kinds.Command.{Command}
-use Rattle.wire.specs.Codes.{Check, _when_, firstOf}
 use Rattle.wire.specs.Table.{ruleOf}
 use Rattle.wire.specs.Judge.{plain, argChecks}
 use Rattle.wire.specs.Read.{reachChecks, sumDiffers, decodeChecks, opcodeOf, flagOf, lengthOf, thirdWord, readChecks, readCode, saidParts, said}
 use Rattle.wire.specs.Kind.{partsOf}
 use Rattle.wire.specs.declared.kinds.Parts.{Parts}
-use Rattle.wire.proofs.Order.{NoneDue, Order, code-lacked, order, apart}
 use Rattle.wire.proofs.Parameters.{SomeOut, Parameter, RangeRow, parameter, eight, range-args, range-read, range-none, range-append, read-eight}
 use Rattle.report.specs.Record.{reportRoom, putCode}
 use Rattle.text.specs.declared.names.Named.{Named}
@@ -30,7 +30,7 @@ use Rattle.text.specs.Line.{isBlank, flagIn, bodyIn, nameIn, lineChecks, typedA
 use Rattle.text.specs.Findings.{finding, nothing, whole, firstFound}
 use Rattle.text.specs.Assemble.{bytesIn, lineFindings, badLine}
 use Rattle.bench.specs.declared.Bench.{Bench}
-use Rattle.bench.specs.Status.{benchSound, soundCheck, statusAt, freeAt}
+use Rattle.bench.specs.Status.{benchSound, soundCheck, statusAt, freeAt, housekeepingAt}
 use Rattle.bench.specs.Carry.{Outcome, effectOf, outcomeFor, stateChecks, commandChecks, carryChecks, carryOut}
 use Rattle.bench.specs.Carry.{bytesChecks, carryBytesChecks, carryOutBytes}
 use Rattle.bench.specs.Second.{secondAt}
@@ -132,6 +132,10 @@ status-order b = order (soundCheck b ∷ []) refl
 pub free-order : (b : Bench) → Order (soundCheck b ∷ []) (freeAt b .code)
 unfolding freeAt
 free-order b = order (soundCheck b ∷ []) refl
+
+pub housekeeping-order : (b : Bench) → Order (soundCheck b ∷ []) (housekeepingAt b .code)
+unfolding housekeepingAt
+housekeeping-order b = order (soundCheck b ∷ []) refl
 
 -- The code of a run is the first of 20, 21 and 27 that is due; on a sound bench 27 is not.
 pub run-order : (b : Bench) (kit pupil room : List ℕ) → Order (runChecks b kit pupil room) (runOf b kit pupil room .code)

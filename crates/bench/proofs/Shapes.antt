@@ -53,7 +53,7 @@ module _ (b : Bench) (typed : Typed b) (survey : Survey) (is : survey ≡ survey
   -- What is at work of the bench, with the survey's tally, is that bench on its pool.
   module _ (works : Works) (own : works ≡ worksOf b) where
     abbrev judged : Works
-    judged = record { camera = works .camera; tally = survey .tally }
+    judged = record { camera = works .camera; tally = survey .tally; latest = works .latest }
 
     pub survey-bench : benchOf judged (b .store .pool) ≡ b
     survey-bench = rw (is, own)

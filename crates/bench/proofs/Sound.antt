@@ -9,9 +9,9 @@ use native.Mathlib.Omega.{arith}
 use lib.ListN.{length, drop}
 use lib.Dec.{eqb}
 use borrow.Author.Tests.{eqb-true, eqb-false, le-leb}
+use Rattle.words.specs.Codes.{firstOf}
 use Rattle.words.proofs.Tests.{both}
 use Rattle.wire.specs.declared.kinds.Command.{Command}
-use Rattle.wire.specs.Codes.{firstOf}
 use Rattle.wire.specs.Judge.{judgeCode}
 use Rattle.wire.specs.Read.{readCode, saidParts, said}
 use Rattle.wire.specs.Kind.{partsOf}
@@ -31,10 +31,12 @@ use Rattle.store.specs.Sound.{storeSound}
 use Rattle.store.proofs.Sound.{Shaped, Marks, Good, good-of, of-sound, fresh-good, applied-keeps, second-keeps}
 use Rattle.store.proofs.Handed.{handed-plainly}
 use Rattle.store.proofs.ClosedMarks.{marked-is}
+use Rattle.report.specs.declared.Latest.{Latest}
 use Rattle.bench.specs.declared.Bench.{Bench}
 use Rattle.bench.specs.Status.{freshBench, statusOf, benchSound, statusAt}
 use Rattle.bench.specs.Carry.{row26, outcomeFor, effectOf, commandChecks, carryCode, carryOut, bytesChecks, taken, carryBytesCode, carryOutBytes}
 use Rattle.bench.specs.Second.{benchAfter, secondAt}
+use Rattle.bench.specs.Run.{noting}
 use Rattle.bench.specs.Events.{Event, command, bytes, second, run, typed, afterOne, after, Reached}
 use Rattle.bench.proofs.Outcomes.{behindCode, behind-code, judge-then, read-then, carry-code, carry-bytes-code}
 use Rattle.bench.proofs.InTurn.{leftBy, by-run, by-typed}
@@ -233,13 +235,18 @@ second-sound b good =
       store = second-keeps (b .store) (h .store);
     })
 
+-- Soundness does not look at the numbers of the latest run.
+pub noting-good : (b : Bench) (latest : Latest) → GoodBench b → GoodBench (noting b latest)
+unfolding benchSound
+noting-good b latest good = record { sound = good .sound; shaped = good .shaped }
+
 -- So one event keeps a bench sound, and several do.
 pub event-keeps : (b : Bench) → GoodBench b → (e : Event) → GoodBench (afterOne b e)
 event-keeps b good (command c) = by-command GoodBench b good c good (λ t. effect-keeps b good c (t .passed))
 event-keeps b good (bytes s) = by-bytes GoodBench b good s good (λ t. effect-keeps b good (said s) (t .passed))
 event-keeps b good second = subst GoodBench (sym (second-is b good)) (second-sound b good)
-event-keeps b good (run kit pupil room) = by-run GoodBench b kit pupil room good (λ zero. left-good b good (rests kit ++ rests pupil))
-event-keeps b good (typed kit text room) = by-typed GoodBench b kit text room good (λ zero. left-good b good (rests kit ++ rests (bytesIn text)))
+event-keeps b good (run kit pupil room) = by-run GoodBench noting-good b kit pupil room good (λ zero. left-good b good (rests kit ++ rests pupil))
+event-keeps b good (typed kit text room) = by-typed GoodBench noting-good b kit text room good (λ zero. left-good b good (rests kit ++ rests (bytesIn text)))
 
 pub after-keeps : (b : Bench) → GoodBench b → (es : List Event) → GoodBench (after b es)
 after-keeps b good [] = good

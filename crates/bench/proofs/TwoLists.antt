@@ -17,7 +17,7 @@ use Rattle.walk.proofs.Turns.{from-place}
 use Rattle.bench.specs.declared.Bench.{Bench}
 use Rattle.bench.specs.declared.lists.Ran.{Ran}
 use Rattle.bench.specs.declared.lists.Begun.{Begun}
-use Rattle.bench.specs.Run.{ownNumbers, runList, kitPart, pupilWith, pupilPart, reportWith, reportOf}
+use Rattle.bench.specs.Run.{ownNumbers, runList, kitPart, pupilWith, endedAs, endedWith, reportWith, reportOf}
 use Rattle.bench.specs.Run.{runCode, begunCode, ranOf, runOf, roomAfter}
 use Rattle.bench.specs.Steps.{refusedWith}
 use Rattle.bench.proofs.InTurn.{own-even}
@@ -46,13 +46,13 @@ module _ (b : Bench) (kit numbers pupil room : List ℕ) (even : length numbers 
   part-fits = rw (from-place room₁ (m * recordLength)) (omega (arith, rest-fits, length-drop (m * recordLength) room₁))
 
   -- The pupil's list was carried out then, in that part of the room.
-  module _ {b₂ : Bench} {part : List ℕ} (b₂-is : b₂ ≡ runList b₁ 2 numbers pupil .bench)
+  module _ {b₂ : Bench} {part : List ℕ} (b₂-is : b₂ ≡ endedAs (runList b₁ 2 numbers pupil) (length (rests pupil)))
       (part-is : part ≡ written (runList b₁ 2 numbers pupil .records) (take (length room₁ - m * recordLength) (drop (m * recordLength) room₁))) where
     abbrev second : List ℕ
     second = pupilWith b kit numbers pupil .records
 
-    pub bench-left : b₂ ≡ pupilWith b kit numbers pupil .bench
-    bench-left = b₂-is ∙ ap (λ (b : Bench). runList b 2 numbers pupil .bench) b₁-is
+    pub bench-left : b₂ ≡ endedWith b kit numbers pupil
+    bench-left = b₂-is ∙ ap (λ (b : Bench). endedAs (runList b 2 numbers pupil) (length (rests pupil))) b₁-is
 
     pupil-put : part ≡ written second (take (length room₁ - m * recordLength) (drop (m * recordLength) room₁))
     pupil-put =
@@ -78,7 +78,7 @@ module _ (b : Bench) (kit pupil room : List ℕ) where
 
   -- A run that was carried out.
   pub run-done : {m n : ℕ} {b₂ : Bench} {left : List ℕ} → runCode b kit pupil room ≡ 0 → m ≡ length (rests kit) → n ≡ length (rests pupil)
-      → b₂ ≡ pupilPart b kit pupil .bench → left ≡ written (reportOf b kit pupil) room
+      → b₂ ≡ endedWith b kit (ownNumbers pupil) pupil → left ≡ written (reportOf b kit pupil) room
       → Promise (record { bench = b₂; begun = Begun.Done; kit = m; pupil = n }) left
   unfolding runOf roomAfter
   run-done code m-is n-is bench-is room-is = (rw (code, bench-is, m-is, n-is), rw code room-is)

@@ -9,11 +9,11 @@ use native.Mathlib.Omega.{arith}
 use lib.ListN.{length, getD, take, drop}
 use lib.Dec.{eqb, leb, ltb}
 use borrow.Author.Tests.{ltb-false, le-ltb, ne-eqb, not-false}
-use Rattle.words.proofs.Tests.{neither, both}
 use Rattle.words.specs.BigEndian.{byteAt, wordAt, written}
+use Rattle.words.specs.Codes.{Check, firstOf}
+use Rattle.words.proofs.Tests.{neither, both}
 use Rattle.wire.specs.declared.judging.Stray.{Stray}
 use Rattle.wire.specs.declared.judging.Told.{Told}
-use Rattle.wire.specs.Codes.{Check, firstOf}
 use Rattle.wire.specs.Judge.{noStray, toldFor}
 use Rattle.wire.specs.Read.{saidParts, said, readCode}
 use Rattle.wire.proofs.Parameters.{Parameter}
@@ -28,10 +28,10 @@ use Rattle.bench.specs.declared.Bench.{Bench}
 use Rattle.bench.specs.Status.{freshBench, benchSound}
 use Rattle.bench.specs.Carry.{stateChecks, bytesChecks, taken}
 use Rattle.bench.specs.Events.{Event, typed, after, Reached, accepts, acceptsAny}
-use Rattle.bench.specs.Run.{recordOf, kitPart, runOf, roomAfter}
-use Rattle.bench.specs.Typed.{typedFindings, typedFound, typedPart, typedReport, typedOf, typedRoom}
+use Rattle.bench.specs.Run.{recordOf, kitPart, noting, endedWith, runOf, roomAfter}
+use Rattle.bench.specs.Typed.{typedFindings, typedFound, typedReport, typedOf, typedRoom}
 use Rattle.bench.proofs.Outcomes.{behindCode, behind-told, read-then}
-use Rattle.bench.proofs.InTurn.{typed-even, both-left, run-left}
+use Rattle.bench.proofs.InTurn.{typed-even, run-left, typed-left}
 use Rattle.bench.proofs.Sound.{GoodBench}
 use Rattle.bench.proofs.MacroRun.{after-append}
 use Rattle.bench.proofs.Report.{restAt, benchAt, verdictAt, recordAt, record-carries, both-fit, kit-placed, pupil-placed, rest-placed, commandsOf}
@@ -96,7 +96,7 @@ module _ (b : Bench) (kit text room : List ℕ) (accepted : typedOf b kit text r
   unfolding typedOf
   pupil-count = rw accepted
 
-  pub bench-after : typedOf b kit text room .bench ≡ typedPart b kit text .bench
+  pub bench-after : typedOf b kit text room .bench ≡ endedWith b kit (lineNumbers text) (bytesIn text)
   unfolding typedOf
   bench-after = rw accepted
 
@@ -131,7 +131,8 @@ module _ (b : Bench) (kit text room : List ℕ) (accepted : typedOf b kit text r
 -- The run of the list that a text says, beside the run of the text.
 pub record SameRun (b : Bench) (kit text room : List ℕ) : Type 0 where
   pub code : runOf b kit (bytesIn text) room .code ≡ 0
-  pub bench : typedOf b kit text room .bench ≡ runOf b kit (bytesIn text) room .bench
+  -- The bench is the same but for the numbers of the latest run, which are lines here and places in the list there.
+  pub bench : let left = typedOf b kit text room .bench in left ≡ noting (runOf b kit (bytesIn text) room .bench) (left .latest)
   pub kit-count : typedOf b kit text room .kit ≡ runOf b kit (bytesIn text) room .kit
   pub pupil-count : typedOf b kit text room .pupil ≡ runOf b kit (bytesIn text) room .pupil
   -- The kit's records are the same, byte for byte,
@@ -156,7 +157,7 @@ same-run b kit text room accepted =
     let code = raw-passes b kit text room (passed b kit text room accepted) in
     record {
       code = code;
-      bench = bench-after b kit text room accepted ∙ bench-is b kit text room code;
+      bench = bench-is b kit text room accepted code;
       kit-count = kit-count b kit text room accepted ∙ sym (raw.kit-count b kit pupil room code);
       pupil-count = pupil-count b kit text room accepted ∙ sym (raw.pupil-count b kit pupil room code);
       kit-records = λ k there. kit-record b kit text room accepted k there ∙ sym (raw.kit-record b kit pupil room code k there);
@@ -170,10 +171,11 @@ same-run b kit text room accepted =
       rest = rest-stays b kit text room accepted ∙ sym (raw.rest-stays b kit pupil room code);
     }
   where
-    bench-is : (b : Bench) (kit text room : List ℕ) → runOf b kit (bytesIn text) room .code ≡ 0
-        → typedPart b kit text .bench ≡ runOf b kit (bytesIn text) room .bench
-    bench-is b kit text room code =
-        both-left b kit (lineNumbers text) (bytesIn text) (typed-even text) ∙ sym (run-left b kit (bytesIn text) room code)
+    bench-is : (b : Bench) (kit text room : List ℕ) → typedOf b kit text room .found .told .code ≡ 0 → runOf b kit (bytesIn text) room .code ≡ 0
+        → let left = typedOf b kit text room .bench in left ≡ noting (runOf b kit (bytesIn text) room .bench) (left .latest)
+    bench-is b kit text room accepted code =
+        let here : Bench → Bench = λ c. noting c (typedOf b kit text room .bench .latest) in
+        ap here (typed-left b kit text room accepted) ∙ sym (ap here (run-left b kit (bytesIn text) room code))
 
 -- Rows 1 to 10 passed when the text was judged: a typed command gets 0 or a code that asks for the state, and nothing is told of a number.
 abbrev pub stateCode : ℕ → Bool
@@ -229,7 +231,7 @@ abbrev pub typedEvents : Bench → List ℕ → List ℕ → List ℕ → List E
 typedEvents b kit text room = cond (eqb (typedOf b kit text room .found .told .code) 0) (commandsOf kit (bytesIn text)) []
 
 module _ (b : Bench) (good : GoodBench b) (kit text room : List ℕ) where
-  pub typed-leaves : typedOf b kit text room .bench ≡ after b (typedEvents b kit text room)
+  pub typed-leaves : let left = typedOf b kit text room .bench in left ≡ noting (after b (typedEvents b kit text room)) (left .latest)
   unfolding typedOf
   typed-leaves = lists-leave b good kit (bytesIn text) (lineNumbers text) (typed-even text) (eqb (typedFound b kit text room .told .code) 0)
 

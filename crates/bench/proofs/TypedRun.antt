@@ -7,20 +7,21 @@ use mathlib.Core.Bool.{Bool, true, false, cond, _||_}
 use lib.ListN.{length}
 use lib.Dec.{eqb, ltb}
 use borrow.Author.Tests.{lt-ltb, le-ltb}
-use Rattle.report.specs.Record.{reportRoom}
 use Rattle.words.specs.BigEndian.{written}
-use Rattle.wire.specs.Codes.{_when_}
+use Rattle.words.specs.Codes.{_when_}
+use Rattle.report.specs.Record.{reportRoom}
 use Rattle.wire.specs.Judge.{plain}
 use Rattle.walk.specs.Walk.{rests}
 use Rattle.text.specs.declared.findings.Finding.{Finding}
 use Rattle.text.specs.Findings.{Outcome, finding, nothing, whole, firstFound}
-use Rattle.text.specs.Assemble.{bytesIn, badLine, textFindings, judgedText}
+use Rattle.text.specs.Assemble.{lineNumbers, bytesIn, badLine, textFindings, judgedText}
 use Rattle.text.proofs.Found.{found-append}
 use Rattle.bench.specs.declared.Bench.{Bench}
 use Rattle.bench.specs.declared.lists.typed.TypedBegun.{TypedBegun}
 use Rattle.bench.specs.declared.lists.typed.TypedRan.{TypedRan}
 use Rattle.bench.specs.Status.{benchSound, soundCheck}
-use Rattle.bench.specs.Typed.{typedFound, typedPart, typedReport, begunFinding, typedRanOf, typedOf, typedRoom}
+use Rattle.bench.specs.Run.{endedWith}
+use Rattle.bench.specs.Typed.{typedFound, typedReport, begunFinding, typedRanOf, typedOf, typedRoom}
 use Rattle.bench.specs.Steps.{refusedTyped}
 
 -- What is found of the run behind a text that was judged good: 21, then 27.
@@ -93,7 +94,7 @@ module _ (b : Bench) (kit text room : List ℕ) where
 
   -- A run that was carried out.
   pub run-done : {m n : ℕ} {b₂ : Bench} {left : List ℕ} → typedFound b kit text room ≡ nothing → m ≡ length (rests kit)
-      → n ≡ length (rests (bytesIn text)) → b₂ ≡ typedPart b kit text .bench → left ≡ written (typedReport b kit text) room
+      → n ≡ length (rests (bytesIn text)) → b₂ ≡ endedWith b kit (lineNumbers text) (bytesIn text) → left ≡ written (typedReport b kit text) room
       → Promise (record { bench = b₂; begun = TypedBegun.Done; kit = m; pupil = n }) left
   unfolding typedOf typedRoom
   run-done found m-is n-is bench-is room-is = (rw (found, bench-is, m-is, n-is), rw found room-is)

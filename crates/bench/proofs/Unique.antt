@@ -20,7 +20,8 @@ use Rattle.bench.specs.declared.Carried.{Carried}
 use Rattle.bench.specs.declared.Passed.{Passed}
 use Rattle.bench.specs.declared.Status.{Status}
 use Rattle.bench.specs.declared.Free.{Free}
-use Rattle.bench.specs.Status.{StatusTold, toldStatus, FreeTold, toldFree}
+use Rattle.bench.specs.declared.Housekept.{Housekept}
+use Rattle.bench.specs.Status.{StatusTold, toldStatus, FreeTold, toldFree, HousekeepingTold, toldHousekeeping}
 use Rattle.bench.specs.Carry.{Outcome, verdictOf, outcomeOf}
 use Rattle.bench.specs.Second.{SecondTold, passedOf, codesShown}
 
@@ -142,3 +143,14 @@ one-free = one-to-one toldFree freeBack back
     back : (f : Free) → freeBack (toldFree f) ≡ f
     back (Free.Known n) = refl
     back Free.Unsound = refl
+
+-- Two answers of `housekeeping` that tell the same are the same.
+pub one-housekept : (a b : Housekept) → toldHousekeeping a ≡ toldHousekeeping b → a ≡ b
+one-housekept = one-to-one toldHousekeeping housekeptBack back
+  where
+    housekeptBack : HousekeepingTold → Housekept
+    housekeptBack t = elim (t .shown) [ [] ↦ Housekept.Unsound | h ∷ hs ↦ Housekept.Known h ]
+
+    back : (h : Housekept) → housekeptBack (toldHousekeeping h) ≡ h
+    back (Housekept.Known h) = refl
+    back Housekept.Unsound = refl

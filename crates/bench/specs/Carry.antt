@@ -4,11 +4,11 @@ use Prim.Native.Nat.{ℕ}
 use mathlib.Core.List.{List, _∷_, _++_}
 use mathlib.Core.Bool.{Bool, cond, not, _&&_}
 use lib.Dec.{eqb}
+use Rattle.words.specs.Codes.{Check, _when_, firstOf}
 use Rattle.wire.specs.declared.kinds.Kind.{Kind}
 use Rattle.wire.specs.declared.kinds.Command.{Command}
 use Rattle.wire.specs.declared.kinds.Parts.{Parts}
 use Rattle.wire.specs.declared.judging.Told.{Told}
-use Rattle.wire.specs.Codes.{Check, _when_, firstOf}
 use Rattle.wire.specs.Kind.{partsOf}
 use Rattle.wire.specs.Judge.{plain, toldOf, toldFor, argChecks}
 use Rattle.wire.specs.Read.{saidParts, said, readChecks}
@@ -42,7 +42,7 @@ abbrev pub cameraAfter : Camera → Command → Camera
 cameraAfter camera c = cond (c .flag) camera (executedOf camera (c .kind))
 
 abbrev pub effectOf : Bench → Command → Bench
-effectOf b c = record { camera = cameraAfter (b .camera) c; store = appliedOf (b .store) c }
+effectOf b c = record { camera = cameraAfter (b .camera) c; store = appliedOf (b .store) c; latest = b .latest }
 
 -- "A refused command changes no part of the state." What is told of the numbers is told of these parts: the command's own, or its fields on the wire.
 abbrev pub outcomeFor : ℕ → Parts → Bench → Command → Outcome

@@ -5,11 +5,13 @@ use mathlib.Core.Bool.{cond}
 use lib.ListN.{length}
 use lib.Dec.{ltb, eqb}
 use Rattle.words.specs.BigEndian.{written}
-use Rattle.wire.specs.Codes.{Check, _when_, firstOf}
+use Rattle.words.specs.Codes.{Check, _when_, firstOf}
 use Rattle.wire.specs.declared.judging.Told.{Told}
 use Rattle.walk.specs.Walk.{rests}
 use Rattle.walk.specs.Shown.{tooLong}
+use Rattle.report.specs.declared.Latest.{Latest}
 use Rattle.report.specs.Record.{recordBytes, reportRoom}
+use Rattle.report.specs.Latest.{latestOf}
 use Rattle.bench.specs.declared.Bench.{Bench}
 use Rattle.bench.specs.declared.lists.Ran.{Ran}
 use Rattle.bench.specs.declared.lists.Begun.{Begun}
@@ -60,6 +62,18 @@ pupilWith b kit numbers pupil = runList (kitPart b kit .bench) 2 numbers pupil
 abbrev pub pupilPart : Bench → List ℕ → List ℕ → Listed
 pupilPart b kit pupil = pupilWith b kit (ownNumbers pupil) pupil
 
+-- 02, Q-11: "The first three are of the pupil's list, set as a run that was not refused ends, 0 where there was none.": they are what the pupil's
+-- own records say.
+abbrev pub noting : Bench → Latest → Bench
+noting b latest = record { camera = b .camera; store = b .store; latest = latest }
+
+-- The bench as a list of so many commands ends a run; so the pupil's list.
+abbrev pub endedAs : Listed → ℕ → Bench
+endedAs part count = noting (part .bench) (latestOf (part .records) count)
+
+abbrev pub endedWith : Bench → List ℕ → List ℕ → List ℕ → Bench
+endedWith b kit numbers pupil = endedAs (pupilWith b kit numbers pupil) (length (rests pupil))
+
 -- "Whole runs: 20, either list longer than 4,096 bytes; then 21, report room below" what 02's Q-6 says; "then 27".
 abbrev pub runChecks : Bench → List ℕ → List ℕ → List ℕ → List Check
 runChecks b kit pupil room = 20 when tooLong kit pupil ∷ 21 when ltb (length room) reportRoom ∷ soundCheck b ∷ []
@@ -88,7 +102,7 @@ abbrev pub runFor : ℕ → Bench → List ℕ → List ℕ → RunTold
 runFor code b kit pupil =
     record {
       code = code;
-      bench = cond (eqb code 0) (pupilPart b kit pupil .bench) b;
+      bench = cond (eqb code 0) (endedWith b kit (ownNumbers pupil) pupil) b;
       kit = cond (eqb code 0) (length (rests kit)) 0;
       pupil = cond (eqb code 0) (length (rests pupil)) 0;
     }

@@ -3,9 +3,9 @@ use Prim.Native.Nat.{ℕ, _-_}
 use mathlib.Core.List.{List, [], _∷_, _++_}
 use mathlib.Core.Bool.{cond}
 use lib.ListN.{length, take, replicate}
+use Rattle.words.specs.Codes.{firstOf}
 use Rattle.wire.specs.declared.kinds.Kind.{Kind}
 use Rattle.wire.specs.declared.judging.Told.{Told}
-use Rattle.wire.specs.Codes.{firstOf}
 use Rattle.wire.specs.Judge.{plain}
 use Rattle.camera.specs.declared.Camera.{Camera}
 use Rattle.camera.specs.Camera.{executedOf, cameraSecond, dark}
@@ -54,7 +54,8 @@ handedCodes camera (k ∷ ks) = handedCode camera k ∷ handedCodes (handedTo ca
 
 -- "First each series ..; second, if a macro runs, the next" group "of its written-out list is handed over and executed".
 abbrev pub benchAfter : Bench → Bench
-benchAfter b = record { camera = executedAll (cameraSecond (b .camera)) (nextGroup (b .store)); store = afterSecond (b .store) }
+benchAfter b =
+    record { camera = executedAll (cameraSecond (b .camera)) (nextGroup (b .store)); store = afterSecond (b .store); latest = b .latest }
 
 unfoldable pub secondAt : Bench → SecondTold
 secondAt b =

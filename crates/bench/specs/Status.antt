@@ -2,7 +2,7 @@
 use Prim.Native.Nat.{ℕ}
 use mathlib.Core.List.{List, [], _∷_}
 use mathlib.Core.Bool.{Bool, cond, not, _&&_}
-use Rattle.wire.specs.Codes.{Check, _when_, firstOf}
+use Rattle.words.specs.Codes.{Check, _when_, firstOf}
 use Rattle.frame.specs.declared.Frame.{Frame}
 use Rattle.frame.specs.declared.Pace.{Pace}
 use Rattle.frame.specs.Rules.{frameRule}
@@ -12,13 +12,16 @@ use Rattle.camera.specs.Camera.{freshCamera}
 use Rattle.store.specs.Pool.{freeIn, marksOf}
 use Rattle.store.specs.Effects.{freshStore}
 use Rattle.store.specs.Sound.{storeSound}
+use Rattle.report.specs.Latest.{noLatest}
+use Rattle.housekeeping.specs.declared.Housekeeping.{Housekeeping}
 use Rattle.bench.specs.declared.Bench.{Bench}
 use Rattle.bench.specs.declared.Status.{Status}
 use Rattle.bench.specs.declared.Free.{Free}
+use Rattle.bench.specs.declared.Housekept.{Housekept}
 
 -- "Fresh: all numbers zero, both intervals 1, no macro open, closed or running."
 abbrev pub freshBench : Bench
-freshBench = record { camera = freshCamera; store = freshStore }
+freshBench = record { camera = freshCamera; store = freshStore; latest = noLatest }
 
 abbrev pub paceOf : Series → Pace
 paceOf s = record { time = s .time; interval = s .interval; count = s .count }
@@ -80,3 +83,21 @@ toldFree Free.Unsound = record { code = 27; free = 0 }
 
 unfoldable pub freeAt : Bench → FreeTold
 freeAt b = record { code = firstOf (soundCheck b ∷ []); free = cond (benchSound b) (freeIn (b .store)) 0 }
+
+-- 02, Q-11: the numbers of the latest run, and "free slots .., 192 less those in use".
+abbrev pub housekeepingOf : Bench → Housekeeping
+housekeepingOf b =
+    record { received = b .latest .received; failed = b .latest .failed; code = b .latest .code; free = freeIn (b .store) }
+
+-- What asking for the housekeeping says: a code, and the numbers where it is 0.
+pub record HousekeepingTold : Type 0 where
+  pub code : ℕ
+  pub shown : List Housekeeping
+
+abbrev pub toldHousekeeping : Housekept → HousekeepingTold
+toldHousekeeping (Housekept.Known h) = record { code = 0; shown = h ∷ [] }
+toldHousekeeping Housekept.Unsound = record { code = 27; shown = [] }
+
+unfoldable pub housekeepingAt : Bench → HousekeepingTold
+housekeepingAt b =
+    record { code = firstOf (soundCheck b ∷ []); shown = cond (benchSound b) (housekeepingOf b ∷ []) [] }

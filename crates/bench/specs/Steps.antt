@@ -7,9 +7,9 @@ use mathlib.Core.List.{List, [], _∷_, _++_}
 use mathlib.Core.Bool.{Bool, true, cond}
 use lib.ListN.{length}
 use lib.Dec.{eqb}
+use Rattle.words.specs.Codes.{Check, firstOf}
 use Rattle.wire.specs.declared.kinds.Kind.{Kind}
 use Rattle.wire.specs.declared.kinds.Command.{Command}
-use Rattle.wire.specs.Codes.{Check, firstOf}
 use Rattle.wire.specs.Kind.{partsOf}
 use Rattle.wire.specs.Judge.{plain, argChecks}
 use Rattle.wire.specs.Read.{Answer, answerFor, readChecks, saidParts, said}
@@ -17,6 +17,7 @@ use Rattle.camera.specs.declared.Camera.{Camera}
 use Rattle.store.specs.declared.tally.Tally.{Tally}
 use Rattle.store.specs.declared.tally.Survey.{Survey}
 use Rattle.store.specs.TallySteps.{tallyOf, bareOf, storeOf, tallyChecks, tallyAfter, poolAfter, Tallied}
+use Rattle.report.specs.declared.Latest.{Latest}
 use Rattle.bench.specs.declared.Bench.{Bench}
 use Rattle.bench.specs.declared.Works.{Works}
 use Rattle.bench.specs.declared.Executed.{Executed}
@@ -30,15 +31,18 @@ use Rattle.bench.specs.Carry.{Outcome, verdictOf, cameraAfter, darkCheck
 use Rattle.bench.specs.Second.{SecondTold, codesShown, executedAll, handedCodes}
 
 -- A bench at work, its pool lent beside it: what of a bench is at work, before the lengths of its macros are worked out; the bench that works and pool
--- are; and what is at work after an accepted command.
+-- are; and what is at work after an accepted command, and as a run ends.
 abbrev pub worksOf : Bench → Works
-worksOf b = record { camera = b .camera; tally = bareOf (b .store) }
+worksOf b = record { camera = b .camera; tally = bareOf (b .store); latest = b .latest }
 
 abbrev pub benchOf : Works → List ℕ → Bench
-benchOf w pool = record { camera = w .camera; store = storeOf pool (w .tally) }
+benchOf w pool = record { camera = w .camera; store = storeOf pool (w .tally); latest = w .latest }
 
 abbrev pub worksAfter : Works → Command → Works
-worksAfter w c = record { camera = cameraAfter (w .camera) c; tally = tallyAfter (w .tally) c }
+worksAfter w c = record { camera = cameraAfter (w .camera) c; tally = tallyAfter (w .tally) c; latest = w .latest }
+
+abbrev pub worksNoting : Works → Latest → Works
+worksNoting w latest = record { camera = w .camera; tally = w .tally; latest = latest }
 
 -- What a run is handed and hands on: a whole pool, on which a sound bench is at work, by a tally that is true of its macros.
 pub record AtWork (w : Works) (pool : List ℕ) : Type 0 where
@@ -72,7 +76,7 @@ decidedIn power t s = answerFor (firstOf (readChecks s ++ behindChecks power t (
 
 -- A bench after a command took effect by the tally of its macros.
 abbrev pub effectBy : Bench → Tally → Command → Bench
-effectBy b t c = benchOf (worksAfter (record { camera = b .camera; tally = t }) c) (poolAfter (b .store .pool) t c)
+effectBy b t c = benchOf (worksAfter (record { camera = b .camera; tally = t; latest = b .latest }) c) (poolAfter (b .store .pool) t c)
 
 -- What was decided, carried out: the bench and the tally after the command, if one was taken.
 abbrev pub benchBy : Bench → Tally → List Command → Bench

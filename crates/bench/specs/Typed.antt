@@ -6,7 +6,7 @@ use mathlib.Core.Bool.{cond, _||_}
 use lib.ListN.{length}
 use lib.Dec.{ltb, eqb}
 use Rattle.words.specs.BigEndian.{written}
-use Rattle.wire.specs.Codes.{_when_}
+use Rattle.words.specs.Codes.{_when_}
 use Rattle.wire.specs.Judge.{plain}
 use Rattle.walk.specs.Walk.{rests}
 use Rattle.report.specs.Record.{reportRoom}
@@ -17,7 +17,7 @@ use Rattle.bench.specs.declared.Bench.{Bench}
 use Rattle.bench.specs.declared.lists.typed.TypedBegun.{TypedBegun}
 use Rattle.bench.specs.declared.lists.typed.TypedRan.{TypedRan}
 use Rattle.bench.specs.Status.{soundCheck}
-use Rattle.bench.specs.Run.{Listed, runList, pupilWith, reportWith}
+use Rattle.bench.specs.Run.{Listed, runList, pupilWith, endedWith, reportWith}
 
 -- "20 first, for text above 32,768 bytes or a raw list above 4,096", the first bad line, 20 where the typed list would be above 4,096 bytes, then
 -- 01's 21 and 27.
@@ -66,7 +66,7 @@ abbrev pub typedFor : Finding → Bench → List ℕ → List ℕ → TypedTold
 typedFor found b kit text =
     record {
       found = found;
-      bench = cond (eqb (found .told .code) 0) (typedPart b kit text .bench) b;
+      bench = cond (eqb (found .told .code) 0) (endedWith b kit (lineNumbers text) (bytesIn text)) b;
       kit = cond (eqb (found .told .code) 0) (length (rests kit)) 0;
       pupil = cond (eqb (found .told .code) 0) (length (rests (bytesIn text))) 0;
     }

@@ -6,6 +6,7 @@ ghost use Rattle.camera.specs.Camera.{cameraSecond};
 ghost use Rattle.store.specs.Effects.{groupOf, kindsIn};
 ghost use Rattle.store.specs.TallySteps.{poolAfter};
 ghost use Rattle.bench.specs.Status.{freshBench, paceOf, statusOf, rulesHold, benchSound, toldStatus, statusAt, toldFree, freeAt};
+ghost use Rattle.bench.specs.Status.{toldHousekeeping, housekeepingAt};
 ghost use Rattle.bench.specs.Carry.{verdictOf, outcomeOf, cameraAfter, carryOut, carryOutBytes};
 ghost use Rattle.bench.specs.Second.{passedOf, codesShown, secondAt};
 ghost use Rattle.bench.specs.Steps.{worksOf, worksAfter, benchOf, decisionOf, effectBy, carriedBy, surveyed, stayedAt, executedWith};
@@ -20,12 +21,14 @@ use deciding::decide;
 use deciding::decide_bytes;
 use frame::Frame;
 use frame::Pace;
+use housekeeping::Housekeeping;
 pub use lists::Begun;
 pub use lists::Ran;
 pub use lists::TypedBegun;
 pub use lists::TypedRan;
 pub use lists::code_of;
 pub use lists::finding_of;
+use report::Latest;
 use store::Denial;
 use store::Group;
 use store::Store;
@@ -38,9 +41,11 @@ use wire::Told;
 // The code of a picture that is asked for with the power off.
 const DARK: u8 = 26;
 
+// The state: the camera, the macro store, and the numbers of the latest run.
 pub struct Bench {
     pub camera: Camera,
     pub store: Store,
+    pub latest: Latest,
 }
 
 pub enum Verdict {
@@ -77,10 +82,18 @@ pub enum Free {
     Unsound,
 }
 
-// A bench at work without the pool of its macros' entries, which is lent beside it: the camera, and the tally of the macros.
+// The numbers of the housekeeping frame.
+pub enum Housekept {
+    Known(Housekeeping),
+    Unsound,
+}
+
+// A bench at work without the pool of its macros' entries, which is lent beside it: the camera, the tally of the macros, and the numbers of the
+// latest run.
 struct Works {
     camera: Camera,
     tally: Tally,
+    latest: Latest,
 }
 
 // What executing a group leaves: the camera, and the code of each entry.
@@ -135,6 +148,7 @@ fn take_effect(works: Works, pool: &mut [u32; 576], command: Command) -> Works
     Works {
         camera: camera_after(camera, command),
         tally: tally.applied(command),
+        ..works
     }
 }
 
@@ -144,8 +158,13 @@ fn bench_of(works: Works, pool: [u32; 576]) -> Bench
 {
     let camera = works.camera;
     let tally = works.tally;
+    let latest = works.latest;
     let store = Store::of_parts(pool, tally);
-    Bench { camera, store }
+    Bench {
+        camera,
+        store,
+        latest,
+    }
 }
 
 // The fields of the status frame. They do not look at the pool.
@@ -258,7 +277,12 @@ impl Bench {
     {
         let camera = Camera::fresh();
         let store = Store::fresh();
-        Bench { camera, store }
+        let latest = Latest::none();
+        Bench {
+            camera,
+            store,
+            latest,
+        }
     }
 
     // The bench at work, without its pool; the lengths of its macros are not worked out.
@@ -268,7 +292,12 @@ impl Bench {
         let camera = self.camera;
         let store = self.store;
         let tally = store.bare();
-        Works { camera, tally }
+        let latest = self.latest;
+        Works {
+            camera,
+            tally,
+            latest,
+        }
     }
 
     // Is this state sound: do the fields of the status frame, both series and the macros obey their rules?
@@ -285,8 +314,14 @@ impl Bench {
     {
         let camera = self.camera;
         let store = self.store;
+        let latest = self.latest;
         let mut pool = store.pool;
-        let works = take_effect(Works { camera, tally }, &mut pool, command);
+        let works = Works {
+            camera,
+            tally,
+            latest,
+        };
+        let works = take_effect(works, &mut pool, command);
         bench_of(works, pool)
     }
 
@@ -364,7 +399,11 @@ impl Bench {
             left: step.left,
             ..store
         };
-        let bench = Bench { camera, store };
+        let bench = Bench {
+            camera,
+            store,
+            ..self
+        };
         Passed {
             bench,
             verdict: Verdict::Accepted,
@@ -396,6 +435,22 @@ impl Bench {
             Free::Known(tally.free())
         } else {
             Free::Unsound
+        }
+    }
+
+    // The numbers of the housekeeping frame: 27, else those of the latest run and the macro entries that are free.
+    pub fn housekeeping(self) -> Housekept
+        ensures { λ r. ⌜ toldHousekeeping r ≡ housekeepingAt self ⌝ }
+    {
+        let latest = self.latest;
+        match self.free() {
+            Free::Unsound => Housekept::Unsound,
+            Free::Known(free) => Housekept::Known(Housekeeping {
+                received: latest.received,
+                failed: latest.failed,
+                code: latest.code,
+                free,
+            }),
         }
     }
 }

@@ -5,8 +5,9 @@ ghost use lib.ListN.{length};
 ghost use Rattle.words.specs.BigEndian.{written};
 ghost use Rattle.walk.specs.Walk.{rests};
 ghost use Rattle.report.specs.Record.{recordLength};
-ghost use Rattle.bench.specs.Run.{begunCode, ownList, ranOf, runOf, roomAfter};
-ghost use Rattle.bench.specs.Steps.{benchOf, AtWork, refusedWith};
+ghost use Rattle.report.specs.Latest.{latestOf};
+ghost use Rattle.bench.specs.Run.{begunCode, ownList, endedAs, ranOf, runOf, roomAfter};
+ghost use Rattle.bench.specs.Steps.{benchOf, worksNoting, AtWork, refusedWith};
 
 mod typed;
 
@@ -84,6 +85,29 @@ fn run_list(works: Works, pool: &mut [u32; 576], list: &[u8], sender: u8, room: 
     Part { works, count }
 }
 
+// The pupil's list was carried out: the numbers of the latest run are what its records say.
+fn ended(part: Part, records: &[u8]) -> Part
+    ensures { λ r. ⌜ (r .works ≡ worksNoting (part .works) (latestOf (now (records .entry)) (part .count))) × (r .count ≡ part .count) ⌝ }
+{
+    let latest = report::latest_of(records, part.count);
+    let count = part.count;
+    let works = part.works;
+    let works = Works { latest, ..works };
+    Part { works, count }
+}
+
+// The pupil's list, with which a run ends.
+fn run_pupil(works: Works, pool: &mut [u32; 576], list: &[u8], room: &mut [u8]) -> Part
+    requires { ⌜ (length (now list) ≤ 4096) × (length (rests (now list)) * recordLength ≤ length (now room)) ⌝ }
+    requires { ⌜ AtWork works (now pool) ⌝ }
+    ensures { λ r. ⌜ benchOf (r .works) (now (pool .exit)) ≡ endedAs (ownList (benchOf works (now (pool .entry))) 2 (now (list .entry))) (length (rests (now (list .entry)))) ⌝ }
+    ensures { λ r. ⌜ r .count ≡ length (rests (now (list .entry))) ⌝ }
+    ensures { λ r. ⌜ now (room .exit) ≡ written (ownList (benchOf works (now (pool .entry))) 2 (now (list .entry)) .records) (now (room .entry)) ⌝ }
+{
+    let part = run_list(works, pool, list, walk::PUPIL, room);
+    ended(part, room)
+}
+
 impl Bench {
     // The kit's list, then the pupil's: 20, then 21, then 27.
     pub fn run(self, kit: &[u8], pupil: &[u8], room: &mut [u8]) -> Ran
@@ -110,7 +134,7 @@ impl Bench {
         let works = Works { tally, ..works };
         let first = run_list(works, &mut pool, kit, walk::KIT, room);
         let end = (first.count as usize) * report::RECORD;
-        let second = run_list(first.works, &mut pool, pupil, walk::PUPIL, &mut room[end..]);
+        let second = run_pupil(first.works, &mut pool, pupil, &mut room[end..]);
         let bench = bench_of(second.works, pool);
         Ran {
             bench,

@@ -2,6 +2,7 @@
 use bench::Bench;
 use camera::Camera;
 use camera::Series;
+use report::Latest;
 use store::Store;
 
 // The words of the pool, three to an entry.
@@ -54,7 +55,15 @@ fn same_macros(a: Store, b: Store) -> bool {
     a.opened == b.opened && a.running == b.running && a.left == b.left
 }
 
+// The same numbers of the latest run?
+fn same_latest(a: Latest, b: Latest) -> bool {
+    a.received == b.received && a.failed == b.failed && a.code == b.code
+}
+
 // Is the second bench the first, as it came?
 pub fn same(a: Bench, b: Bench) -> bool {
-    same_camera(a.camera, b.camera) && same_macros(a.store, b.store) && same_pool(a.store, b.store)
+    same_camera(a.camera, b.camera)
+        && same_macros(a.store, b.store)
+        && same_pool(a.store, b.store)
+        && same_latest(a.latest, b.latest)
 }

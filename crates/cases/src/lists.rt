@@ -52,12 +52,11 @@ fn answer(begun: Begun, kit: u32, pupil: u32, room: &[u8]) {
     rooms::rest(room, end);
 }
 
-// The same, and the status of the bench afterwards.
-fn outcome(ran: Ran, room: &[u8]) {
+// The same, and the bench afterwards.
+fn outcome(ran: Ran, room: &[u8]) -> Bench {
     let begun = ran.begun;
-    let after = ran.bench;
     answer(begun, ran.kit, ran.pupil, room);
-    telling::status(b", ", after);
+    ran.bench
 }
 
 // Runs both lists with the front of a room.
@@ -69,8 +68,8 @@ fn lent(b: Bench, kit: &[u8], pupil: &[u8], room: &mut [u8], size: usize) -> Ran
     }
 }
 
-// `run`: the sizes of the room, of the kit's list and of the pupil's.
-pub fn run(b: Bench, s: &[u8]) {
+// The run of a line: the sizes of the room, of the kit's list and of the pupil's.
+fn carried(b: Bench, s: &[u8]) -> Bench {
     let mut kit = [0u8; LIST];
     let mut pupil = [0u8; LIST];
     let mut room = [rooms::FILL; ROOM];
@@ -80,7 +79,19 @@ pub fn run(b: Bench, s: &[u8]) {
     let kit = lines::part(&kit, 0, size);
     let pupil = lines::part(&pupil, 0, words::half_at(s, 4) as usize);
     let ran = lent(b, kit, pupil, &mut room, words::half_at(s, 0) as usize);
-    outcome(ran, &room);
+    outcome(ran, &room)
+}
+
+// `run`: last comes the status of the bench afterwards.
+pub fn run(b: Bench, s: &[u8]) {
+    telling::status(b", ", carried(b, s));
+}
+
+// `runs`: the same with its housekeeping, and the bench goes on from there.
+pub fn go_on(b: Bench, s: &[u8]) -> Bench {
+    let next = carried(b, s);
+    telling::kept(b", ", next);
+    next
 }
 
 // `shown`: a sender, a number, and the sizes of the kit's list and of the pupil's.

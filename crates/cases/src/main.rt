@@ -14,6 +14,7 @@ mod rooms;
 mod say;
 mod setting;
 mod states;
+mod tags;
 mod telling;
 mod texts;
 
@@ -32,6 +33,10 @@ fn framed(line: &[u8], s: &[u8]) {
         frames::values(s);
     } else if lines::begins(line, b"put ") {
         frames::write(s);
+    } else if lines::begins(line, b"tags ") {
+        tags::read(s);
+    } else if lines::begins(line, b"pack ") {
+        tags::write(s);
     } else {
         say::text(b"no such verb");
     }
@@ -75,6 +80,8 @@ fn looked(b: Bench, line: &[u8], s: &[u8]) {
         telling::status(b"", b);
     } else if lines::begins(line, b"free ") {
         telling::free(b"free ", b);
+    } else if lines::begins(line, b"housekeeping ") {
+        telling::kept(b"", b);
     } else if lines::begins(line, b"state ") {
         states::state(setting::set(b, s));
     } else if lines::begins(line, b"run ") {
@@ -96,6 +103,10 @@ fn answered(b: Bench, line: &[u8], s: &[u8]) -> Bench {
         asking::carried(b.carry_out_bytes(s))
     } else if lines::begins(line, b"second ") {
         asking::second(b)
+    } else if lines::begins(line, b"runs ") {
+        lists::go_on(b, s)
+    } else if lines::begins(line, b"types ") {
+        texts::go_on(b, s)
     } else {
         looked(b, line, s);
         b

@@ -3,6 +3,7 @@
 use super::lines;
 use super::say;
 use frame::Frame;
+use housekeeping::Housekeeping;
 use wire::Command;
 
 // What every byte of a room is before it is lent.
@@ -90,6 +91,27 @@ pub fn put_frame(f: Frame, size: usize) {
         frame::Writing::Written => written(&room, frame::SIZE),
         frame::Writing::Refused(refusal) => {
             say::field8(b"code ", frame::code_of(refusal));
+            rest(&room, 0);
+        }
+    }
+}
+
+// Lends the front of a room to the writer of a housekeeping frame.
+fn write_housekeeping(h: Housekeeping, room: &mut [u8], size: usize) -> housekeeping::Writing {
+    if size <= room.len() {
+        housekeeping::write_housekeeping(h, &mut room[0..size])
+    } else {
+        housekeeping::Writing::NoRoom
+    }
+}
+
+// Writes a housekeeping frame into so many bytes of a room, and says what came of it.
+pub fn put_housekeeping(h: Housekeeping, size: usize) {
+    let mut room = [FILL; 256];
+    match write_housekeeping(h, &mut room, size) {
+        housekeeping::Writing::Written => written(&room, housekeeping::SIZE),
+        housekeeping::Writing::NoRoom => {
+            say::text(b"code 24");
             rest(&room, 0);
         }
     }

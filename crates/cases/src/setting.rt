@@ -4,11 +4,12 @@ use super::compare::WORDS;
 use bench::Bench;
 use camera::Camera;
 use camera::Series;
+use report::Latest;
 use store::Store;
 
 // What the first byte says. Of a series come time, interval, next and the images so far; with ROLES the running macro, the open one and the
 // seconds left; of a macro its number, how many entries it has, and 1 where it is closed; of an entry its place in the pool and its flag, opcode and
-// arguments, or its place and its three words as they are.
+// arguments, or its place and its three words as they are; of the latest run its last received and last failed number, and the code of that.
 const IMAGE: u8 = 1;
 
 const TRACK: u8 = 2;
@@ -26,6 +27,8 @@ const MACRO: u8 = 7;
 const ENTRY: u8 = 8;
 
 const ENTRY_WORDS: u8 = 9;
+
+const LATEST: u8 = 10;
 
 // The series that a line says; the images so far are none where they are left out.
 fn series(s: &[u8]) -> Series {
@@ -125,11 +128,30 @@ fn with_store(store: Store, s: &[u8]) -> Store {
     }
 }
 
+// The numbers of the latest run, the line's where it says so.
+fn with_latest(latest: Latest, s: &[u8]) -> Latest {
+    if words::byte_at(s, 0) == LATEST {
+        Latest {
+            received: words::word_at(s, 1),
+            failed: words::word_at(s, 5),
+            code: words::byte_at(s, 9),
+        }
+    } else {
+        latest
+    }
+}
+
 // `set`: the bench with the line's fields in it.
 pub fn set(b: Bench, s: &[u8]) -> Bench {
     let camera = b.camera;
     let store = b.store;
+    let latest = b.latest;
     let camera = with_camera(camera, s);
     let store = with_store(store, s);
-    Bench { camera, store }
+    let latest = with_latest(latest, s);
+    Bench {
+        camera,
+        store,
+        latest,
+    }
 }

@@ -1,6 +1,6 @@
-// `state`: the bench, with fields written as `set` does, is given to every call that takes one: a FLUSH to carry out, a second, the status, the free
-// entries, and two lists of a FLUSH each to run, the second one raw and then typed. Each answers with its code, 27 where the state is not sound, and
-// with the state as it came or changed.
+// `state`: the bench, with fields written as `set` does, is given to every call that takes one but `housekeeping`, which has a verb of its own: a
+// FLUSH to carry out, a second, the status, the free entries, and two lists of a FLUSH each to run, the second one raw and then typed. Each answers
+// with its code, 27 where the state is not sound, and with the state as it came or changed.
 use super::asking;
 use super::compare;
 use super::rooms;

@@ -1,11 +1,13 @@
 // The status of a bench in one line: every field of its status frame by name. Goals are bits in hex, power, auto flush and loop 0 or 1; 255 is no
-// macro, and `closed` has bit m for macro m. Beside it the free entries, which the frame does not have.
+// macro, and `closed` has bit m for macro m. Beside it the free entries and the housekeeping, which the frame does not have.
 use super::say;
 use bench::Bench;
 use bench::Free;
+use bench::Housekept;
 use bench::Status;
 use frame::Frame;
 use frame::Pace;
+use housekeeping::Housekeeping;
 
 // A series of images, its time behind this name.
 fn series(name: &[u8], pace: Pace) {
@@ -68,5 +70,22 @@ pub fn free(name: &[u8], b: Bench) {
             say::field8(b" ", count);
         }
         Free::Unsound => say::field8(name, 27),
+    }
+}
+
+// The numbers of a housekeeping frame.
+pub fn numbers(h: Housekeeping) {
+    say::field(b"received ", h.received as u64);
+    say::field(b" failed ", h.failed as u64);
+    say::field8(b" code ", h.code);
+    say::field8(b" free ", h.free);
+}
+
+// Those of the bench, or 27, behind what parts them from the text before.
+pub fn kept(parting: &[u8], b: Bench) {
+    say::text(parting);
+    match b.housekeeping() {
+        Housekept::Known(h) => numbers(h),
+        Housekept::Unsound => say::text(b"housekeeping 27"),
     }
 }

@@ -1,6 +1,6 @@
-// Typed lists: `assemble` makes a raw list of a text, `list` a text of a raw list, `typed` runs the kit's raw list and a text on the bench of the
-// lines; `letters` assembles a text with each byte at a place, and `line` shows a line. The size of the room stands in front of a text or list; with
-// `typed` that of the kit's list stands behind it, and this list before the text.
+// Typed lists: `assemble` makes a raw list of a text, `list` a text of a raw list, `typed` and `types` run the kit's raw list and a text on the bench
+// of the lines; `letters` assembles a text with each byte at a place, and `line` shows a line. The size of the room stands in front of a text or list;
+// with `typed` and `types` that of the kit's list stands behind it, and this list before the text.
 use super::lines;
 use super::rooms;
 use super::say;
@@ -121,16 +121,27 @@ fn lent(b: Bench, kit: &[u8], typed: &[u8], room: &mut [u8], size: usize) -> Typ
     }
 }
 
-// `typed`: the sizes of the room and of the kit's list; last comes the status of the bench afterwards.
-pub fn typed(b: Bench, s: &[u8]) {
+// The run of a line: the sizes of the room and of the kit's list.
+fn carried(b: Bench, s: &[u8]) -> Bench {
     let mut room = [rooms::FILL; ROOM];
     let middle = LONG + words::half_at(s, 2) as usize;
     let kit = lines::part(s, LONG, middle);
     let typed = lines::part(s, middle, s.len());
     let ran = lent(b, kit, typed, &mut room, words::half_at(s, 0) as usize);
-    let after = ran.bench;
     answer(ran, &room);
-    telling::status(b", ", after);
+    ran.bench
+}
+
+// `typed`: last comes the status of the bench afterwards.
+pub fn typed(b: Bench, s: &[u8]) {
+    telling::status(b", ", carried(b, s));
+}
+
+// `types`: the same with its housekeeping, and the bench goes on from there.
+pub fn go_on(b: Bench, s: &[u8]) -> Bench {
+    let next = carried(b, s);
+    telling::kept(b", ", next);
+    next
 }
 
 // 1 where the line's text with this byte at its place is taken, and the value is printed; else 0.

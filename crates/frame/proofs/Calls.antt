@@ -9,8 +9,8 @@ use lib.ListN.{length, take, drop}
 use lib.Seq.{take-append-seam}
 use borrow.Author.Tests.{ne-eqb, le-leb, not-false}
 use Rattle.words.specs.BigEndian.{hasRoom, written}
-use Rattle.wire.proofs.Order.{NoneDue}
-use Rattle.wire.proofs.Front.{Bytes}
+use Rattle.words.proofs.Order.{NoneDue}
+use Rattle.words.proofs.Front.{Bytes}
 use Rattle.frame.specs.declared.Frame.{Frame}
 use Rattle.frame.specs.Rules.{frameRule}
 use Rattle.frame.specs.Bytes.{frameBytes, frameAt}

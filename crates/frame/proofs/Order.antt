@@ -2,7 +2,7 @@
 use Prim.Native.Nat.{ℕ}
 use mathlib.Core.Path.{refl}
 use mathlib.Core.List.{List}
-use Rattle.wire.proofs.Order.{Order, order}
+use Rattle.words.proofs.Order.{Order, order}
 use Rattle.frame.specs.declared.Frame.{Frame}
 use Rattle.frame.specs.Answers.{readChecks, readCode, writeChecks, writeCode}
 

@@ -9,10 +9,10 @@ use lib.Seq.{take-all}
 use lib.Count.{ones, ones-le}
 use lib.Dec.{eqb}
 use borrow.Author.Tests.{eq-eqb, eqb-true, eqb-false, not-false}
-use Rattle.words.proofs.Tests.{both}
 use Rattle.words.specs.BigEndian.{byteAt, halfAt, wordAt, bytesOf}
-use Rattle.wire.proofs.Order.{due-none}
-use Rattle.wire.proofs.Front.{Bytes, frontWords, front-made}
+use Rattle.words.proofs.Tests.{both}
+use Rattle.words.proofs.Order.{due-none}
+use Rattle.words.proofs.Front.{Bytes, frontWords, front-made}
 use Rattle.frame.specs.declared.Frame.{Frame}
 use Rattle.frame.specs.Rules.{frameRule}
 use Rattle.frame.specs.Bytes.{bit, modesOf, frameBytes, frameAt, spareBitsZero, countHolds}

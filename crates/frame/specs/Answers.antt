@@ -5,7 +5,7 @@ use mathlib.Core.Bool.{Bool, cond, not, _&&_}
 use lib.ListN.{length}
 use lib.Dec.{eqb}
 use Rattle.words.specs.BigEndian.{hasRoom, written}
-use Rattle.wire.specs.Codes.{Check, _when_, firstOf}
+use Rattle.words.specs.Codes.{Check, _when_, firstOf}
 use Rattle.frame.specs.declared.Frame.{Frame}
 use Rattle.frame.specs.declared.Refusal.{Refusal}
 use Rattle.frame.specs.declared.Reading.{Reading}

@@ -9,9 +9,9 @@ use lib.ListN.{length}
 use lib.Dec.{eqb}
 use borrow.Author.Tests.{le-leb}
 use Rattle.words.specs.BigEndian.{hasRoom, written}
-use Rattle.wire.specs.Codes.{_when_}
+use Rattle.words.specs.Codes.{_when_}
+use Rattle.words.proofs.Front.{Bytes}
 use Rattle.wire.specs.Read.{said}
-use Rattle.wire.proofs.Front.{Bytes}
 use Rattle.walk.specs.Walk.{rests}
 use Rattle.text.specs.Findings.{whole, firstFound, outcomeFor}
 use Rattle.text.specs.Lister.{textOf, rawFindings, listFindings, listedAs, listedRoom}

@@ -9,8 +9,8 @@ use lib.ListN.{length, drop}
 use lib.Dec.{eqb}
 use borrow.Author.Tests.{le-leb, eqb-true}
 use Rattle.words.specs.BigEndian.{hasRoom, written}
+use Rattle.words.specs.Codes.{_when_}
 use Rattle.words.proofs.Laws.{with-room}
-use Rattle.wire.specs.Codes.{_when_}
 use Rattle.text.specs.declared.findings.Finding.{Finding}
 use Rattle.text.specs.Findings.{whole, firstFound, Outcome, outcomeFor}
 use Rattle.text.proofs.Found.{Silent, found-append, found-silent, silent-found}

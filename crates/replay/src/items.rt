@@ -6,6 +6,7 @@ use super::lists;
 use super::output;
 use super::script;
 use super::seconds;
+use super::tags;
 use super::texts;
 use super::texts::Way;
 use bench::Bench;
@@ -80,6 +81,8 @@ pub fn item(state: State, s: &[u8], out: &mut [u8]) -> State {
         11 => texts::translate(state, s, out, Way::ToText),
         12 => texts::run(state, s, out),
         13 => texts::line(state, s, out),
+        14 => tags::own(state, s, out),
+        15 => tags::read(state, s, out),
         _ => state.bad(out),
     }
 }

@@ -9,6 +9,7 @@ mod output;
 mod rooms;
 mod script;
 mod seconds;
+mod tags;
 mod texts;
 
 use items::State;

@@ -4,8 +4,8 @@ use mathlib.Core.List.{List, [], _∷_}
 use mathlib.Core.Bool.{Bool, false, not, _&&_, _||_}
 use lib.ListN.{length, getD}
 use lib.Dec.{leb, ltb, eqb}
+use Rattle.words.specs.Codes.{Check, _when_, firstOf}
 use Rattle.wire.specs.declared.kinds.Command.{Command}
-use Rattle.wire.specs.Codes.{Check, _when_, firstOf}
 use Rattle.store.specs.declared.Store.{Store}
 use Rattle.store.specs.declared.roles.Role.{Role}
 use Rattle.store.specs.declared.checks.Denial.{Denial}

@@ -5,7 +5,7 @@ ghost use mathlib.Core.Path.{_≡_};
 ghost use mathlib.Core.Bool.{true, false, _&&_, _||_};
 ghost use lib.ListN.{length, getD};
 ghost use lib.Dec.{leb, eqb};
-ghost use Rattle.wire.specs.Codes.{firstOf};
+ghost use Rattle.words.specs.Codes.{firstOf};
 ghost use Rattle.wire.specs.Judge.{rowChecks};
 ghost use Rattle.store.specs.Pool.{between};
 ghost use Rattle.store.specs.Sound.{entryHolds, storeSound};

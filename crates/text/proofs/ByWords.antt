@@ -7,8 +7,8 @@ use native.Mathlib.Omega.{arith}
 use lib.ListN.{length, getD, drop}
 use lib.Dec.{eqb}
 use borrow.Author.Tests.{eq-eqb, ne-eqb, eqb-true, eqb-false}
+use Rattle.words.specs.Codes.{_when_, firstOf as firstDue}
 use Rattle.wire.specs.declared.table.Form.{Form}
-use Rattle.wire.specs.Codes.{_when_, firstOf as firstDue}
 use Rattle.wire.specs.Table.{rowOf, argumentsOf}
 use Rattle.wire.specs.Kind.{partsWith, kindOf}
 use Rattle.wire.specs.Judge.{toldFor, partChecks}

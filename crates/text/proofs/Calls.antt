@@ -11,12 +11,12 @@ use lib.Seq.{take-at}
 use lib.Dec.{ltb}
 use borrow.Author.Tests.{le-leb, le-ltb, leb-true, ltb-false, ne-eqb}
 use Rattle.words.specs.BigEndian.{hasRoom}
+use Rattle.words.specs.Codes.{_when_}
 use Rattle.words.proofs.Laws.{with-room}
+use Rattle.words.proofs.Front.{Bytes}
 use Rattle.wire.specs.declared.kinds.Command.{Command}
-use Rattle.wire.specs.Codes.{_when_}
 use Rattle.wire.specs.Read.{said}
 use Rattle.wire.specs.Write.{commandBytes, listBytes}
-use Rattle.wire.proofs.Front.{Bytes}
 use Rattle.walk.specs.Walk.{rests}
 use Rattle.text.specs.Findings.{nothing, whole, firstFound, Outcome, outcome}
 use Rattle.text.specs.Split.{linesOf}

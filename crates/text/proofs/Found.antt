@@ -6,7 +6,7 @@ use mathlib.Core.List.{List, [], _∷_, _++_}
 use mathlib.Core.Bool.{Bool, true, false, cond, true≢false}
 use lib.Dec.{eqb}
 use borrow.Author.Tests.{eq-eqb, eqb-true}
-use Rattle.wire.specs.Codes.{_when_}
+use Rattle.words.specs.Codes.{_when_}
 use Rattle.wire.proofs.Answers.{refusal-code}
 use Rattle.text.specs.declared.findings.Fault.{Fault}
 use Rattle.text.specs.declared.findings.Finding.{Finding}

@@ -12,10 +12,10 @@ use borrow.Author.Tests.{le-ltb, lt-ltb, ltb-false, eq-eqb}
 use borrow.Rule.Slice.PartMut.{putMid}
 use Rattle.words.specs.BigEndian.{hasRoom, written}
 use Rattle.words.specs.Text.{storedAt}
+use Rattle.words.specs.Codes.{_when_}
 use Rattle.words.proofs.Stores.{stored-fits, no-store, part-stored}
 use Rattle.wire.specs.declared.kinds.Command.{Command}
 use Rattle.wire.specs.declared.judging.Told.{Told}
-use Rattle.wire.specs.Codes.{_when_}
 use Rattle.wire.specs.Judge.{judgeCode}
 use Rattle.wire.specs.Read.{Answer}
 use Rattle.wire.specs.Write.{commandBytes, listBytes, roomAfter as commandRoom}

@@ -11,18 +11,18 @@ use lib.Seq.{sets, sets-eq, length-sets, drop-drop, take-at, length-take-le}
 use lib.Dec.{eqb}
 use borrow.Author.Tests.{eq-eqb, eqb-true, eqb-false, lt-ltb, le-ltb}
 use Rattle.words.specs.BigEndian.{wordAt, hasRoom, written}
+use Rattle.words.specs.Codes.{_when_, firstOf}
+use Rattle.words.proofs.FirstOf.{Coded, first-append}
+use Rattle.words.proofs.Front.{Bytes}
 use Rattle.wire.specs.declared.table.Found.{Found}
 use Rattle.wire.specs.declared.kinds.Command.{Command}
 use Rattle.wire.specs.declared.judging.Refusal.{Refusal}
 use Rattle.wire.specs.declared.judging.Told.{Told}
 use Rattle.wire.specs.declared.decoding.Reading.{Reading}
-use Rattle.wire.specs.Codes.{_when_, firstOf}
 use Rattle.wire.specs.Table.{ruleOf}
 use Rattle.wire.specs.Read.{Answer, answerOf, answerFor, opcodeOf, flagOf, lengthOf, thirdWord, decodeChecks, readChecks, readCode, readOf, saidParts, said, spanOf}
 use Rattle.wire.specs.Write.{commandBytes}
 use Rattle.wire.proofs.Answers.{refusal-code, reaches}
-use Rattle.wire.proofs.FirstOf.{Coded, first-append}
-use Rattle.wire.proofs.Front.{Bytes}
 use Rattle.wire.proofs.Local.{reached}
 use Rattle.wire.proofs.RoundTrip.{read-held, written-back}
 use Rattle.walk.specs.Walk.{rests}

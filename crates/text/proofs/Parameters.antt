@@ -11,11 +11,11 @@ use lib.ListN.{length, getD, take}
 use lib.Dec.{eqb, ltb}
 use borrow.Author.Tests.{eqb-false}
 use Rattle.words.specs.BigEndian.{hasRoom}
+use Rattle.words.specs.Codes.{_when_, firstOf}
+use Rattle.words.proofs.Order.{NoneDue}
 use Rattle.wire.specs.declared.kinds.Parts.{Parts}
-use Rattle.wire.specs.Codes.{_when_, firstOf}
 use Rattle.wire.specs.Judge.{plain, partChecks}
 use Rattle.wire.specs.Read.{readChecks, saidParts, said}
-use Rattle.wire.proofs.Order.{NoneDue}
 use Rattle.wire.proofs.Parameters.{SomeOut, Parameter, RangeRow, parameter, eight, range-parts, range-none, range-append, range-read}
 use Rattle.walk.specs.Walk.{rests}
 use Rattle.text.specs.declared.names.Named.{Named}

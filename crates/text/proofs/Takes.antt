@@ -11,16 +11,16 @@ use lib.Dec.{ltb}
 use borrow.Author.Tests.{le-leb, leb-true, le-ltb, ltb-false}
 use Rattle.words.specs.BigEndian.{byteAt, hasRoom}
 use Rattle.words.specs.Text.{ascii, decimalIn, decimal}
+use Rattle.words.specs.Codes.{_when_}
 use Rattle.words.proofs.Decimal.{no-leading-zero}
 use Rattle.words.proofs.Tests.{both}
+use Rattle.words.proofs.Front.{Bytes}
 use Rattle.wire.specs.declared.table.Layout.{Layout}
 use Rattle.wire.specs.declared.kinds.Command.{Command}
-use Rattle.wire.specs.Codes.{_when_}
 use Rattle.wire.specs.Table.{rowOf}
 use Rattle.wire.specs.Kind.{partsOf}
 use Rattle.wire.specs.Read.{said, spanOf, lengthOf}
 use Rattle.wire.specs.Write.{listBytes}
-use Rattle.wire.proofs.Front.{Bytes}
 use Rattle.wire.proofs.Layouts.{Within}
 use Rattle.wire.proofs.RoundTrip.{held-within, read-held, read-allowed, written-back}
 use Rattle.walk.specs.Walk.{rests}

@@ -5,8 +5,8 @@ use mathlib.Core.Bool.{cond, not}
 use lib.ListN.{length}
 use lib.Dec.{eqb, ltb}
 use Rattle.words.specs.BigEndian.{hasRoom, written}
+use Rattle.words.specs.Codes.{_when_}
 use Rattle.wire.specs.declared.kinds.Command.{Command}
-use Rattle.wire.specs.Codes.{_when_}
 use Rattle.wire.specs.Write.{listBytes}
 use Rattle.text.specs.declared.findings.Finding.{Finding}
 use Rattle.text.specs.Split.{linesOf}

@@ -3,9 +3,9 @@ use Prim.Native.Nat.{ℕ}
 use mathlib.Core.List.{List, [], _∷_}
 use mathlib.Core.Bool.{cond}
 use lib.Dec.{eqb}
+use Rattle.words.specs.Codes.{Check}
 use Rattle.wire.specs.declared.judging.Refusal.{Refusal}
 use Rattle.wire.specs.declared.judging.Told.{Told}
-use Rattle.wire.specs.Codes.{Check}
 use Rattle.wire.specs.Judge.{plain, toldOf}
 use Rattle.text.specs.declared.findings.Fault.{Fault}
 use Rattle.text.specs.declared.findings.Finding.{Finding}

@@ -5,11 +5,11 @@ use mathlib.Core.Bool.{Bool, true, false, cond, not, _||_}
 use lib.ListN.{length, getD, drop}
 use lib.Dec.{eqb}
 use Rattle.words.specs.BigEndian.{byteAt}
+use Rattle.words.specs.Codes.{Check, _when_, firstOf as firstDue}
 use Rattle.wire.specs.declared.table.Form.{Form}
 use Rattle.wire.specs.declared.table.Layout.{Layout}
 use Rattle.wire.specs.declared.kinds.Command.{Command}
 use Rattle.wire.specs.declared.kinds.Parts.{Parts}
-use Rattle.wire.specs.Codes.{Check, _when_, firstOf as firstDue}
 use Rattle.wire.specs.Table.{rowOf, argumentsOf}
 use Rattle.wire.specs.Kind.{partsWith, kindOf}
 use Rattle.wire.specs.Judge.{plain, toldFor, partChecks}

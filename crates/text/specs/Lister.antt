@@ -6,10 +6,10 @@ use lib.ListN.{length}
 use lib.Dec.{eqb, ltb}
 use Rattle.words.specs.BigEndian.{hasRoom, written}
 use Rattle.words.specs.Text.{ascii, decimal}
+use Rattle.words.specs.Codes.{Check, _when_, firstOf}
 use Rattle.wire.specs.declared.table.Layout.{Layout}
 use Rattle.wire.specs.declared.kinds.Command.{Command}
 use Rattle.wire.specs.declared.judging.Told.{Told}
-use Rattle.wire.specs.Codes.{Check, _when_, firstOf}
 use Rattle.wire.specs.Table.{rowOf, nameOf}
 use Rattle.wire.specs.Kind.{partsOf}
 use Rattle.wire.specs.Judge.{toldFor}

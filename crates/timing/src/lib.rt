@@ -1,8 +1,10 @@
 // The jobs that `speed/` measures: each exported function does one job many times over, so that the call itself costs nothing, and folds what
 // comes out into one number, so that none of the work can be left out. Bytes go in and out as slices.
 use bench::Bench;
+use bench::Housekept;
 use bench::Status;
 use frame::Frame;
+use housekeeping::Housekeeping;
 use store::Group;
 use text::Translated;
 use wire::Command;
@@ -14,6 +16,8 @@ const COMMANDS: usize = 16;
 const COMMAND: usize = 16;
 // The frames that are read or written in turn.
 const FRAMES: usize = 8;
+// How far apart housekeeping frames begin, so that there are bytes behind each which may be left over.
+const APART: usize = 32;
 
 // A number that depends on every number folded in so far.
 fn mixed(sum: u64, value: u64) -> u64 {
@@ -87,6 +91,11 @@ fn with_modes(sum: u64, f: Frame) -> u64 {
     let auto = with_bit(power, f.auto);
     let looping = with_bit(auto, f.looping);
     mixed(mixed(looping, f.algorithm as u64), f.flushes as u64)
+}
+
+fn with_housekeeping(sum: u64, h: Housekeeping) -> u64 {
+    let numbers = mixed(mixed(sum, h.received as u64), h.failed as u64);
+    mixed(mixed(numbers, h.code as u64), h.free as u64)
 }
 
 fn read_one(sum: u64, bytes: &[u8]) -> u64 {
@@ -264,11 +273,123 @@ pub extern "C" fn timing_frame_write(bytes: &[u8], room: &mut [u8], times: u32) 
     sum
 }
 
+fn read_housekeeping_one(sum: u64, bytes: &[u8]) -> u64 {
+    match housekeeping::read_housekeeping(bytes) {
+        housekeeping::Reading::Taken(h) => with_housekeeping(sum, h),
+        housekeeping::Reading::Refused(refusal) => mixed(
+            sum,
+            housekeeping::code_of(refusal) as u64,
+        ),
+    }
+}
+
+// Reads a housekeeping frame so many times, in turn each of the eight that begin 32 bytes apart; so many bytes of each.
+#[no_mangle]
+pub extern "C" fn timing_housekeeping_read(bytes: &[u8], each: u32, times: u32) -> u64 {
+    if bytes.len() < FRAMES * APART {
+        return 0;
+    }
+    let size = each as usize;
+    if APART < size {
+        return 0;
+    }
+    let mut sum: u64 = 0;
+    let mut i: u32 = 0;
+    while i < times {
+        let at = (i as usize) % FRAMES * APART;
+        let end = at + size;
+        sum = read_housekeeping_one(sum, &bytes[at..end]);
+        i += 1;
+    }
+    sum
+}
+
+fn no_housekeeping() -> Housekeeping {
+    Housekeeping {
+        received: 0,
+        failed: 0,
+        code: 0,
+        free: 0,
+    }
+}
+
+// The numbers of the frame that these bytes are; zeros where they are none.
+fn housekeeping_of(bytes: &[u8]) -> Housekeeping {
+    match housekeeping::read_housekeeping(bytes) {
+        housekeeping::Reading::Taken(h) => h,
+        housekeeping::Reading::Refused(_) => no_housekeeping(),
+    }
+}
+
+fn housekeepings_of(bytes: &[u8]) -> [Housekeeping; 8] {
+    let none = no_housekeeping();
+    let mut frames = [none; 8];
+    let mut i: usize = 0;
+    while i < FRAMES {
+        let at = i * APART;
+        let end = at + housekeeping::SIZE;
+        if end <= bytes.len() {
+            frames[i] = housekeeping_of(&bytes[at..end]);
+        }
+        i += 1;
+    }
+    frames
+}
+
+fn write_housekeeping_one(sum: u64, h: Housekeeping, room: &mut [u8]) -> u64 {
+    match housekeeping::write_housekeeping(h, room) {
+        housekeeping::Writing::Written => mixed(sum, 0),
+        housekeeping::Writing::NoRoom => mixed(sum, 24),
+    }
+}
+
+// Writes a housekeeping frame so many times, in turn each of the eight that begin 32 bytes apart in `bytes`, to the same place of the room; each has
+// so many bytes of room.
+#[no_mangle]
+pub extern "C" fn timing_housekeeping_write(
+    bytes: &[u8],
+    room: &mut [u8],
+    each: u32,
+    times: u32,
+) -> u64 {
+    if room.len() < FRAMES * APART {
+        return 0;
+    }
+    let size = each as usize;
+    if APART < size {
+        return 0;
+    }
+    let frames = housekeepings_of(bytes);
+    let mut sum: u64 = 0;
+    let mut i: u32 = 0;
+    while i < times {
+        let k = (i as usize) % FRAMES;
+        let at = k * APART;
+        let end = at + size;
+        let h = frames[k];
+        sum = write_housekeeping_one(sum, h, &mut room[at..end]);
+        i += 1;
+    }
+    sum
+}
+
 fn with_status(sum: u64, bench: Bench) -> u64 {
     match bench.status() {
         Status::Known(f) => with_frame(sum, f),
         Status::Unsound => mixed(sum, 27),
     }
+}
+
+fn with_housekept(sum: u64, bench: Bench) -> u64 {
+    match bench.housekeeping() {
+        Housekept::Known(h) => with_housekeeping(sum, h),
+        Housekept::Unsound => mixed(sum, 27),
+    }
+}
+
+// The fields of a bench's status, and the numbers of its housekeeping, which are those of the latest run and the free entries.
+fn with_bench(sum: u64, bench: Bench) -> u64 {
+    with_housekept(with_status(sum, bench), bench)
 }
 
 // A bench after some work, and what came out of it folded into one number.
@@ -285,7 +406,7 @@ fn one_run(sum: u64, kit: &[u8], pupil: &[u8], room: &mut [u8]) -> Later {
     Later { bench, sum }
 }
 
-// Runs these two lists so many times, each time on a fresh bench; then the fields of the last one's status.
+// Runs these two lists so many times, each time on a fresh bench; then the last one's status and housekeeping.
 #[no_mangle]
 pub extern "C" fn timing_run(kit: &[u8], pupil: &[u8], room: &mut [u8], times: u32) -> u64 {
     let mut sum: u64 = 0;
@@ -297,7 +418,7 @@ pub extern "C" fn timing_run(kit: &[u8], pupil: &[u8], room: &mut [u8], times: u
         sum = done.sum;
         i += 1;
     }
-    with_status(sum, last)
+    with_bench(sum, last)
 }
 
 // So many seconds pass.
@@ -316,7 +437,7 @@ fn passing(bench: Bench, sum: u64, seconds: u32) -> Later {
     Later { bench, sum }
 }
 
-// So many times over, this bench passes so many seconds; then the fields of the last one's status.
+// So many times over, this bench passes so many seconds; then the last one's status and housekeeping.
 fn passing_again(start: Bench, seconds: u32, times: u32) -> u64 {
     let mut last = start;
     let mut sum: u64 = 0;
@@ -327,7 +448,7 @@ fn passing_again(start: Bench, seconds: u32, times: u32) -> u64 {
         sum = done.sum;
         i += 1;
     }
-    with_status(sum, last)
+    with_bench(sum, last)
 }
 
 // A fresh bench runs this list; then, so many times over, that bench passes so many seconds.

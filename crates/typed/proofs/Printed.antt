@@ -10,8 +10,8 @@ use lib.Seq.{take-at, drop-length}
 use lib.Dec.{ltb}
 use borrow.Author.Tests.{eq-eqb, ne-eqb}
 use Rattle.words.specs.BigEndian.{bytesOf, written}
+use Rattle.words.specs.Codes.{_when_}
 use Rattle.words.proofs.Laws.{with-room}
-use Rattle.wire.specs.Codes.{_when_}
 use Rattle.wire.specs.Read.{sumOf}
 use Rattle.wire.specs.Write.{commandBytes, listBytes}
 use Rattle.walk.specs.Walk.{rests}

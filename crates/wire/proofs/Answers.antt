@@ -8,8 +8,10 @@ use native.Mathlib.Omega.{arith}
 use lib.ListN.{length}
 use lib.Dec.{eqb, leb, ltb}
 use borrow.Author.Tests.{eq-eqb, ne-eqb, ltb-false}
-use Rattle.words.proofs.Tests.{neither}
 use Rattle.words.specs.BigEndian.{halfAt, wordAt}
+use Rattle.words.specs.Codes.{Check, _when_, firstOf}
+use Rattle.words.proofs.Tests.{neither}
+use Rattle.words.proofs.Order.{due-none}
 use Rattle.wire.specs.declared.table.Form.{Form}
 use Rattle.wire.specs.declared.table.Row.{Row}
 use Rattle.wire.specs.declared.table.Found.{Found}
@@ -22,8 +24,6 @@ use Rattle.wire.specs.declared.judging.Judged.{Judged}
 use Rattle.wire.specs.declared.decoding.Reading.{Reading}
 use Rattle.wire.specs.declared.decoding.Fields.{Fields}
 use Rattle.wire.specs.declared.decoding.Reach.{Reach}
-use Rattle.wire.proofs.Order.{due-none}
-use Rattle.wire.specs.Codes.{Check, _when_, firstOf}
 use Rattle.wire.specs.Table.{rowOf, ruleOf}
 use Rattle.wire.specs.Kind.{kindOf}
 use Rattle.wire.specs.Judge.{plain, toldOf, toldJudged, judgedBy, partChecks, toldFor}

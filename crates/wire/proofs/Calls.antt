@@ -10,16 +10,17 @@ use lib.ListN.{length, take, drop}
 use lib.Seq.{length-take-le}
 use borrow.Author.Tests.{ne-eqb, le-leb, not-false}
 use Rattle.words.specs.BigEndian.{hasRoom, written}
+use Rattle.words.proofs.Order.{NoneDue, none-due}
+use Rattle.words.proofs.Front.{Bytes}
 use Rattle.wire.specs.declared.kinds.Command.{Command}
 use Rattle.wire.specs.Judge.{plain, argChecks, judgeCode}
 use Rattle.wire.specs.Read.{lengthOf, commandIn, readCode, readOf}
 use Rattle.wire.specs.Write.{commandBytes, writeChecks, writeCode, wroteAt, roomAfter}
 use Rattle.wire.specs.Steps.{wroteAllowed}
-use Rattle.wire.proofs.Order.{NoneDue, none-due, write-order}
+use Rattle.wire.proofs.Order.{write-order}
 use Rattle.wire.proofs.Writes.{allowed}
 use Rattle.wire.proofs.Answers.{reaches}
 use Rattle.wire.proofs.Local.{reached}
-use Rattle.wire.proofs.Front.{Bytes}
 use Rattle.wire.proofs.RoundTrip.{Held, read-back, read-allowed, written-back}
 
 -- Where `write_command` gave 0, `read_command` of the room afterwards gives the command back with code 0. (`Held`: a command that a program can

@@ -12,7 +12,6 @@ pub mod Answers
 pub mod Front
 pub mod Layouts
 pub mod Ranges
-pub mod FirstOf
 pub mod Lengths
 pub mod Sums
 mod Singles

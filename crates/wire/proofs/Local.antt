@@ -9,15 +9,16 @@ use lib.Seq.{length-take-le}
 use lib.Dec.{eqb, ltb}
 use borrow.Author.Tests.{eq-eqb, eqb-true, eqb-false, le-ltb, ltb-false}
 use Rattle.words.specs.BigEndian.{wordAt}
+use Rattle.words.specs.Codes.{Check, _when_, firstOf}
 use Rattle.words.proofs.Laws.{half-on, word-on}
+use Rattle.words.proofs.Order.{FirstAt, none-due}
 use Rattle.wire.specs.declared.kinds.Command.{Command}
 use Rattle.wire.specs.declared.kinds.Parts.{Parts}
-use Rattle.wire.specs.Codes.{Check, _when_, firstOf}
 use Rattle.wire.specs.Judge.{plain}
 use Rattle.wire.specs.Read.{answerFor, lengthOf, sumOf, thirdWord, wholeChecks, saidParts, said}
 use Rattle.wire.specs.Read.{reachChecks, reachCode, readChecks, readCode, readOf, spanOf}
 use Rattle.wire.specs.Steps.{readWhole}
-use Rattle.wire.proofs.Order.{FirstAt, none-due, read-order}
+use Rattle.wire.proofs.Order.{read-order}
 use Rattle.wire.proofs.Answers.{refusedBy, Reaches, reaches, goes}
 
 -- The sum of words that lie whole in a list is the same where the list goes on.

@@ -10,22 +10,22 @@ use native.Mathlib.Omega.{arith}
 use lib.ListN.{length, take}
 use lib.Dec.{eqb, leb, ltb}
 use borrow.Author.Tests.{eqb-true, eqb-false, ne-eqb, leb-false, not-true}
-use Rattle.words.proofs.Tests.{neither}
 use Rattle.words.specs.BigEndian.{wordAt, hasRoom}
+use Rattle.words.specs.Codes.{Check, _when_, firstOf}
+use Rattle.words.proofs.Tests.{neither}
+use Rattle.words.proofs.Order.{rowAt, NoneDue, FirstAt, lacks, apart, first-at, lacks-on, code-lacked, at-first}
 use Rattle.wire.specs.declared.table.Layout.{Layout}
 use Rattle.wire.specs.declared.table.Found.{Found}
 use Rattle.wire.specs.declared.kinds.Command.{Command}
 use Rattle.wire.specs.declared.kinds.Parts.{Parts}
 use Rattle.wire.specs.declared.judging.Stray.{Stray}
 use Rattle.wire.specs.declared.judging.Told.{Told}
-use Rattle.wire.specs.Codes.{Check, _when_, firstOf}
 use Rattle.wire.specs.Table.{rowOf, ruleOf}
 use Rattle.wire.specs.Kind.{partsOf}
 use Rattle.wire.specs.Judge.{strayWith, noStray, toldWith, plain, minusZero, inLimits, badIn, strayIn, partChecks, toldFor, argChecks, judgeCode, judged}
 use Rattle.wire.specs.Read.{opcodeOf, flagOf, lengthOf, thirdWord, sumDiffers, partsAs, decodeChecks, formIn, saidParts}
 use Rattle.wire.specs.Read.{reachChecks, readChecks, readCode, readOf}
 use Rattle.wire.specs.Write.{commandBytes, writeChecks, wroteAt}
-use Rattle.wire.proofs.Order.{rowAt, NoneDue, FirstAt, lacks, apart, first-at, lacks-on, code-lacked, at-first}
 
 -- Is the first of two numbers in range by the row of their form, and is the second? (An argument that a command does not have is.)
 abbrev pub firstInRange : Parts → Bool

@@ -6,10 +6,10 @@ use mathlib.Core.Bool.{Bool, true, false, cond, _&&_}
 use native.Mathlib.Omega.{arith}
 use lib.Dec.{leb}
 use borrow.Author.Tests.{leb-true}
+use Rattle.words.specs.Codes.{firstOf}
 use Rattle.words.proofs.Tests.{both}
 use Rattle.wire.specs.declared.table.Form.{Form}
 use Rattle.wire.specs.declared.kinds.Parts.{Parts}
-use Rattle.wire.specs.Codes.{firstOf}
 use Rattle.wire.specs.Table.{rowOf}
 use Rattle.wire.specs.Kind.{partsWith, partsOf, kindOf}
 use Rattle.wire.specs.Judge.{badIn, partChecks, judgeCode}

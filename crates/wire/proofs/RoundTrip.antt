@@ -12,6 +12,10 @@ use lib.Ieee.{binary32, toBits, fits}
 use lib.Ieee.Bits.{ofBits-toBits, ofBits-fits}
 use borrow.Author.Tests.{eqb-true, le-ltb}
 use Rattle.words.specs.BigEndian.{halfAt, wordAt, bytesOf}
+use Rattle.words.specs.Codes.{firstOf}
+use Rattle.words.proofs.Order.{NoneDue, none-due}
+use Rattle.words.proofs.Front.{Bytes}
+use Rattle.words.proofs.Front.{frontWords}
 use Rattle.wire.specs.declared.table.Form.{Form}
 use Rattle.wire.specs.declared.table.Layout.{Layout}
 use Rattle.wire.specs.declared.table.Row.{Row}
@@ -20,7 +24,6 @@ use Rattle.wire.specs.declared.kinds.Kind.{Kind}
 use Rattle.wire.specs.declared.kinds.Command.{Command}
 use Rattle.wire.specs.declared.kinds.Parts.{Parts}
 use Rattle.wire.specs.declared.decoding.Fields.{Fields}
-use Rattle.wire.specs.Codes.{firstOf}
 use Rattle.wire.specs.Table.{rowOf, ruleOf}
 use Rattle.wire.specs.Kind.{partsWith, partsOf, kindOf}
 use Rattle.wire.specs.Judge.{plain, badIn, partChecks, judgeCode}
@@ -28,11 +31,11 @@ use Rattle.wire.specs.Read.{Answer, answerFor, fieldsWith, fieldsOf, opc
 use Rattle.wire.specs.Read.{formIn, decodeChecks, reachCode, readChecks, readCode, readOf, spanOf}
 use Rattle.wire.specs.Write.{headOf, packedOf, closed, wordsOf, commandBytes}
 use Rattle.wire.specs.Steps.{readWhole}
-use Rattle.wire.proofs.Order.{NoneDue, none-due, read-order}
+use Rattle.wire.proofs.Order.{read-order}
 use Rattle.wire.proofs.Answers.{Reaches, reaches, sum-passed, length-passed, pad-passed}
 use Rattle.wire.proofs.Local.{read-whole, span-whole, reached}
-use Rattle.wire.proofs.Front.{Bytes, high-half, low-half, opcode-back, flag-back, length-back, head-made, closed-summed}
-use Rattle.wire.proofs.Front.{sum-closed, frontWords, closed-front}
+use Rattle.wire.proofs.Front.{high-half, low-half, opcode-back, flag-back, length-back, head-made, closed-summed}
+use Rattle.wire.proofs.Front.{sum-closed, closed-front}
 use Rattle.wire.proofs.Sums.{word-back}
 use Rattle.wire.proofs.Lengths.{few-words, length-closed}
 use Rattle.wire.proofs.Layouts.{argWords, length-packed, form-words, form-found, found-form, Within, fields-packed, packed-fields}

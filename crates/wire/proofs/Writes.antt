@@ -7,13 +7,13 @@ use native.Mathlib.Omega.{arith}
 use lib.Dec.{eqb}
 use lib.ListN.{length}
 use Rattle.words.specs.BigEndian.{hasRoom, written}
+use Rattle.words.specs.Codes.{_when_}
+use Rattle.words.proofs.FirstOf.{first-append}
 use Rattle.wire.specs.declared.kinds.Command.{Command}
-use Rattle.wire.specs.Codes.{_when_}
 use Rattle.wire.specs.Kind.{partsOf}
 use Rattle.wire.specs.Judge.{toldFor, argChecks, judgeCode, judged}
 use Rattle.wire.specs.Write.{commandBytes, writeCode, wroteAt, roomAfter}
 use Rattle.wire.specs.Steps.{wroteAllowed}
-use Rattle.wire.proofs.FirstOf.{first-append}
 
 module _ (c : Command) (room : List ℕ) where
   -- The code of the whole, and answer and room by that code.

@@ -6,12 +6,12 @@ use mathlib.Core.Bool.{Bool, cond}
 use lib.ListN.{length}
 use lib.Dec.{eqb}
 use Rattle.words.specs.BigEndian.{hasRoom}
+use Rattle.words.specs.Codes.{firstOf}
 use Rattle.wire.specs.declared.table.Form.{Form}
 use Rattle.wire.specs.declared.table.FlagRule.{FlagRule}
 use Rattle.wire.specs.declared.kinds.Command.{Command}
 use Rattle.wire.specs.declared.judging.Told.{Told}
 use Rattle.wire.specs.declared.decoding.Reach.{Reach}
-use Rattle.wire.specs.Codes.{firstOf}
 use Rattle.wire.specs.Table.{ruleOf}
 use Rattle.wire.specs.Judge.{plain, toldOf, flagChecks}
 use Rattle.wire.specs.Read.{Answer, answerFor, partsAs, commandAs, formChecks, decodeChecks, formIn, wholeChecks, partsIn, commandIn, lengthOf, reachCode}

@@ -5,11 +5,11 @@ use mathlib.Core.Bool.{Bool, true, false, cond, not}
 use lib.ListN.{length}
 use lib.Dec.{eqb}
 use Rattle.words.specs.BigEndian.{wordBytes, bytesOf, hasRoom, written}
+use Rattle.words.specs.Codes.{Check, _when_, firstOf}
 use Rattle.wire.specs.declared.table.Layout.{Layout}
 use Rattle.wire.specs.declared.kinds.Command.{Command}
 use Rattle.wire.specs.declared.judging.Told.{Told}
 use Rattle.wire.specs.declared.encoding.Writing.{Writing}
-use Rattle.wire.specs.Codes.{Check, _when_, firstOf}
 use Rattle.wire.specs.Table.{rowOf}
 use Rattle.wire.specs.Kind.{partsOf}
 use Rattle.wire.specs.Judge.{plain, toldOf, toldFor, argChecks}

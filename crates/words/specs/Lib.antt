@@ -1,3 +1,4 @@
--- Numbers as bytes, highest byte first; text as bytes.
+-- Numbers as bytes, highest byte first; text as bytes; codes in the order they are tried.
 pub mod BigEndian
 pub mod Text
+pub mod Codes

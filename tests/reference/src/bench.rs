@@ -1,5 +1,5 @@
 //! The bench state: judging a command against it (codes 8 to 19, 25, 26), carrying
-//! the command out, letting a second pass, and the frame that shows the state.
+//! the command out, letting a second pass, and the two frames that show the state.
 
 use std::collections::VecDeque;
 
@@ -10,6 +10,7 @@ use crate::codes::{
 };
 use crate::command::{Command, Kind};
 use crate::frame::Frame;
+use crate::housekeeping::Housekeeping;
 use crate::macros::{Group, MacroStore, FULLEST_SECOND, LONGEST_MACRO};
 use crate::wire::read_command;
 
@@ -41,6 +42,16 @@ pub struct Handed {
     pub command: Command,
 }
 
+/// What is kept of the latest run that was not refused: the number of the pupil's last
+/// record, and number and code of the last one that is no acceptance. All are 0 where
+/// there is no such record, and until a run has ended.
+#[derive(Clone, Copy, Debug, Default, PartialEq, Eq)]
+pub struct Latest {
+    pub received: u32,
+    pub failed: u32,
+    pub failed_code: u8,
+}
+
 #[derive(Clone, Debug, PartialEq, Eq)]
 pub struct Bench {
     pub image: Series,
@@ -54,6 +65,7 @@ pub struct Bench {
     pub flushes: u8,
     pub macros: MacroStore,
     pub running: Option<Running>,
+    pub latest: Latest,
 }
 
 impl Series {
@@ -102,6 +114,7 @@ impl Default for Bench {
             flushes: 0,
             macros: MacroStore::default(),
             running: None,
+            latest: Latest::default(),
         }
     }
 }
@@ -255,6 +268,15 @@ impl Bench {
             open: self.macros.open.map(|open| open as u8),
             seconds_left: self.seconds_left() as u16,
             closed: self.macros.closed_bits(),
+        }
+    }
+
+    pub fn housekeeping(&self) -> Housekeeping {
+        Housekeeping {
+            received: self.latest.received,
+            failed: self.latest.failed,
+            failed_code: self.latest.failed_code,
+            free: self.macros.free_entries() as u8,
         }
     }
 }

@@ -36,11 +36,18 @@ pub const UNKNOWN_NAME: u8 = 30;
 pub const MALFORMED_ARGUMENT: u8 = 31;
 pub const WRONG_NUMBER_OF_ARGUMENTS: u8 = 32;
 pub const GOAL_NOT_SAID: u8 = 33;
+pub const ITEM_CUT_OFF: u8 = 47;
+pub const UNEXPECTED_TAG: u8 = 48;
+pub const WRONG_ITEM_LENGTH: u8 = 49;
+pub const BYTES_LEFT_OVER: u8 = 50;
 
 /// Whether a replay can show the code. 27 is left out on purpose: a state
 /// reached from a fresh bench is always sound, and replay reaches no other.
 pub fn can_be_shown(code: u8) -> bool {
-    matches!(code, ACCEPTED..=POWER_OFF | UNKNOWN_NAME..=GOAL_NOT_SAID)
+    matches!(
+        code,
+        ACCEPTED..=POWER_OFF | UNKNOWN_NAME..=GOAL_NOT_SAID | ITEM_CUT_OFF..=BYTES_LEFT_OVER
+    )
 }
 
 /// What was wrong with a number: the first bad argument by its position from 1, the

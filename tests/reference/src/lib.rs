@@ -7,6 +7,7 @@ pub mod codes;
 pub mod command;
 pub mod comparison;
 pub mod frame;
+pub mod housekeeping;
 pub mod list;
 pub mod macros;
 pub mod numbers;

@@ -5,6 +5,7 @@ use crate::bench::{Bench, Handed};
 use crate::codes::{code_and_finding, Placed, Refusal};
 use crate::command::{Command, COMMANDS, TABLE};
 use crate::frame::{Frame, FRAME_BYTES};
+use crate::housekeeping::Housekeeping;
 use crate::run::{run_lists, shown, Counts, RECORD_BYTES};
 use crate::text::{assemble, line_shown, list_text};
 use crate::typed::run_typed;
@@ -31,6 +32,8 @@ pub const ASSEMBLE: u8 = 0x0a;
 pub const LIST: u8 = 0x0b;
 pub const TYPED: u8 = 0x0c;
 pub const LINE: u8 = 0x0d;
+pub const HOUSEKEEPING: u8 = 0x0e;
+pub const TAGS: u8 = 0x0f;
 
 /// What is left of a script; each taking is none where the script is cut off.
 pub struct Script<'a> {
@@ -128,6 +131,8 @@ impl Replay {
             LIST => written_lines("listed", list_text, script),
             TYPED => self.typed(script),
             LINE => line_line(script),
+            HOUSEKEEPING => Some(self.housekeeping(script.byte()?.into())),
+            TAGS => Some(tags_line(script.byte()?.into(), script.short_part()?)),
             _ => None,
         }
     }
@@ -142,6 +147,15 @@ impl Replay {
         match self.bench.frame().write(&mut room) {
             Ok(_) => format!("status {}\n", hex(&room)),
             Err(refusal) => format!("status {}\n", refusal.code),
+        }
+    }
+
+    fn housekeeping(&self, room: usize) -> String {
+        let mut room = vec![ROOM_FILL; room];
+        let told = self.bench.housekeeping();
+        match told.write(&mut room) {
+            Ok(length) => format!("housekeeping 0 {told} {}\n", hex(&room[..length])),
+            Err(refusal) => format!("housekeeping {}\n", refusal.code),
         }
     }
 
@@ -277,6 +291,17 @@ fn read_line(room: usize, bytes: &[u8]) -> String {
             let mut room = vec![ROOM_FILL; room];
             let written = write_command(&command, &mut room);
             format!("read 0 0 0 0 0 {}\n", written_words(&written, &room))
+        }
+    }
+}
+
+fn tags_line(room: usize, bytes: &[u8]) -> String {
+    match Housekeeping::read(bytes) {
+        Err(refusal) => format!("tags {}\n", refusal.code),
+        Ok(told) => {
+            let mut room = vec![ROOM_FILL; room];
+            let written = told.write(&mut room);
+            format!("tags 0 {told} {}\n", written_words(&written, &room))
         }
     }
 }

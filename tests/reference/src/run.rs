@@ -1,8 +1,11 @@
 //! The run of two lists, the kit's and then the pupil's, with one record for
-//! each command (codes 20, 21), and the bytes shown for a record.
+//! each command (codes 20, 21), what the bench keeps of it, and the bytes shown
+//! for a record.
 
-use crate::bench::Bench;
-use crate::codes::{code_and_finding, refuse_if, Refusal, LIST_TOO_LONG, REPORT_ROOM_TOO_SMALL};
+use crate::bench::{Bench, Latest};
+use crate::codes::{
+    code_and_finding, refuse_if, Refusal, ACCEPTED, LIST_TOO_LONG, REPORT_ROOM_TOO_SMALL,
+};
 use crate::wire::extent;
 
 pub const LONGEST_LIST: usize = 4096;
@@ -95,11 +98,31 @@ pub fn run_lists(
 ) -> Result<Counts, Refusal> {
     refuse_if(either_too_long(kit, pupil), LIST_TOO_LONG)?;
     refuse_if(room.len() < SMALLEST_REPORT_ROOM, REPORT_ROOM_TOO_SMALL)?;
-    Ok(report(&records_of(bench, kit, pupil), room))
+    let records = records_of(bench, kit, pupil);
+    Ok(end_run(bench, &records, room))
+}
+
+/// The end of a run that was not refused: the bench keeps what housekeeping tells of
+/// it, and the records are reported.
+pub fn end_run(bench: &mut Bench, records: &[Record], room: &mut [u8]) -> Counts {
+    bench.latest = latest_of(records);
+    report(records, room)
+}
+
+/// Of the pupil's records alone, whatever the kit's have.
+fn latest_of(records: &[Record]) -> Latest {
+    let own: Vec<&Record> = records.iter().filter(|one| one.sender == PUPIL).collect();
+    let last = own.last();
+    let last_failed = own.iter().rfind(|one| one.code != ACCEPTED);
+    Latest {
+        received: last.map_or(0, |one| one.number),
+        failed: last_failed.map_or(0, |one| one.number),
+        failed_code: last_failed.map_or(ACCEPTED, |one| one.code),
+    }
 }
 
 /// Writes the records one after another into the room, which has enough of it.
-pub fn report(records: &[Record], room: &mut [u8]) -> Counts {
+fn report(records: &[Record], room: &mut [u8]) -> Counts {
     for (record, place) in records.iter().zip(room.chunks_exact_mut(RECORD_BYTES)) {
         place.copy_from_slice(&record.bytes());
     }

@@ -3,7 +3,7 @@
 
 use crate::bench::Bench;
 use crate::codes::{refuse_if, Placed, LIST_TOO_LONG, REPORT_ROOM_TOO_SMALL};
-use crate::run::{records_of, report, Counts, Record, LONGEST_LIST, PUPIL, SMALLEST_REPORT_ROOM};
+use crate::run::{end_run, records_of, Counts, Record, LONGEST_LIST, PUPIL, SMALLEST_REPORT_ROOM};
 use crate::text::{commands_typed, TypedCommand};
 
 /// Both lists in turn, recorded but not yet reported anywhere.
@@ -26,5 +26,6 @@ pub fn run_typed(
     refuse_if(kit.len() > LONGEST_LIST, LIST_TOO_LONG)?;
     let commands = commands_typed(text)?;
     refuse_if(room.len() < SMALLEST_REPORT_ROOM, REPORT_ROOM_TOO_SMALL)?;
-    Ok(report(&typed_records(bench, kit, &commands), room))
+    let records = typed_records(bench, kit, &commands);
+    Ok(end_run(bench, &records, room))
 }

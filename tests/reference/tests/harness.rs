@@ -178,8 +178,97 @@ fn random_scripts_tell_of_numbers_in_every_sort_of_line() {
     }
 }
 
+/// What random scripts ask for about housekeeping, and how often.
+#[derive(Default)]
+struct Asked {
+    /// Of the bench: whether anything was received, whether it failed, and whether it
+    /// was the last one that did.
+    runs: BTreeMap<(bool, bool, bool), usize>,
+    /// The failed commands' codes, and the free entries.
+    codes: BTreeSet<u8>,
+    free: BTreeSet<u8>,
+    /// Lists that set nothing because they were refused, and empty ones behind a failure.
+    refused: usize,
+    emptied: usize,
+    /// Of frames read: how often each code was given.
+    frames: BTreeMap<u8, usize>,
+}
+
+impl Asked {
+    fn watch(&mut self, script: &[Item]) {
+        let mut replay = Replay::default();
+        for item in script {
+            let before = replay.bench.latest;
+            let lines = replay.item(&mut Script::new(item)).unwrap_or_default();
+            let words: Vec<&str> = lines.split_whitespace().collect();
+            let code = words.get(1).and_then(|word| word.parse().ok());
+            match (words.first(), code) {
+                (Some(&"housekeeping"), Some(0)) => self.told(&replay),
+                (Some(&"run" | &"typed"), Some(0)) => {
+                    let emptied = before.failed > 0 && replay.bench.latest.received == 0;
+                    self.emptied += usize::from(emptied);
+                }
+                (Some(&"run" | &"typed"), _) => self.refused += usize::from(before.failed > 0),
+                (Some(&"tags"), Some(code)) => *self.frames.entry(code).or_default() += 1,
+                _ => {}
+            }
+        }
+    }
+
+    fn told(&mut self, replay: &Replay) {
+        let told = replay.bench.housekeeping();
+        let (received, failed) = (told.received, told.failed);
+        let sort = (received > 0, failed > 0, received == failed);
+        *self.runs.entry(sort).or_default() += 1;
+        self.codes.insert(told.failed_code);
+        self.free.insert(told.free);
+    }
+}
+
 #[test]
-fn one_fixed_script_is_too_long_and_nineteen_are_bad() {
+fn random_scripts_ask_for_housekeeping_in_every_sort_of_case() {
+    let mut asked = Asked::default();
+    for index in 0..20 {
+        asked.watch(&random::script(Rng::stream(7, index)));
+    }
+    // Nothing received, no failure, the last one failing, and an earlier one.
+    let sorts = [(false, false, true), (true, false, false)];
+    for sort in sorts
+        .into_iter()
+        .chain([(true, true, true), (true, true, false)])
+    {
+        let times = asked.runs.get(&sort).copied().unwrap_or_default();
+        assert!(times > 50, "{sort:?} {times}");
+    }
+    assert_eq!(asked.runs.len(), 4, "{:?}", asked.runs);
+    assert!(asked.codes.len() > 15, "{:?}", asked.codes);
+    assert!([0, 192].iter().all(|free| asked.free.contains(free)));
+    assert!(asked.free.len() > 50, "{:?}", asked.free);
+    assert!(asked.refused > 30, "{}", asked.refused);
+    assert!(asked.emptied > 10, "{}", asked.emptied);
+    for code in [0, 47, 48, 49, 50] {
+        let times = asked.frames.get(&code).copied().unwrap_or_default();
+        assert!(times > 80, "{code} {times}");
+    }
+}
+
+#[test]
+fn fixed_scripts_ask_for_housekeeping_with_every_code_and_every_number_of_free_entries() {
+    let mut asked = Asked::default();
+    for script in fixed::scripts() {
+        asked.watch(&script);
+    }
+    let codes: BTreeSet<u8> = (0..=19).chain([25, 26]).collect();
+    assert_eq!(asked.codes, codes);
+    assert_eq!(asked.free, (0..=192).collect());
+    assert_eq!(
+        asked.frames.keys().collect::<Vec<_>>(),
+        [&0, &47, &48, &49, &50]
+    );
+}
+
+#[test]
+fn one_fixed_script_is_too_long_and_twenty_two_are_bad() {
     let transcripts: Vec<String> = fixed::scripts()
         .iter()
         .map(|script| transcript(&script.concat()))
@@ -191,7 +280,7 @@ fn one_fixed_script_is_too_long_and_nineteen_are_bad() {
             .count()
     };
     assert_eq!(ending("too long\n"), 1);
-    assert_eq!(ending("bad script\n"), 19);
+    assert_eq!(ending("bad script\n"), 22);
 }
 
 #[test]
@@ -215,8 +304,9 @@ fn codes_are_counted_wherever_a_line_shows_one() {
     tally.add("read 0 0 0 0 0 24\ndecoded 11 0 0 0 0 9\n");
     tally.add("frame 0 24\nframe 22\npassed 7\nstatus 27\nsecond 0 0\n");
     tally.add("assembled 30 2 0 0 0 0\nlisted 33 1 0 0 0 0\ntyped 31 1 0 0 0 0 0 0\nline 6162\n");
+    tally.add("housekeeping 24\ntags 47\ntags 0 1 2 50 9 21\nhousekeeping 0 32 49 48 50 12\n");
     let missing = [
-        1, 2, 3, 4, 6, 7, 8, 10, 12, 13, 14, 15, 16, 17, 18, 21, 23, 25, 26, 32,
+        1, 2, 3, 4, 6, 7, 8, 10, 12, 13, 14, 15, 16, 17, 18, 23, 25, 26, 32, 48, 49, 50,
     ];
     // 0 did not occur beside an entry.
     assert_eq!(tally.missing(), [&[0], &missing[..]].concat());

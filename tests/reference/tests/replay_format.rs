@@ -3,8 +3,8 @@
 
 use reference::command::Kind;
 use reference::comparison::items::{
-    append, assemble, command, decoded, frame, fresh, line, list_text, now, passed, raw, read, run,
-    second, shown, status, typed,
+    append, assemble, command, decoded, frame, fresh, housekeeping, line, list_text, now, passed,
+    raw, read, run, second, shown, status, tags, typed,
 };
 use reference::replay::transcript;
 
@@ -177,11 +177,62 @@ fn a_line_shown() {
 }
 
 #[test]
+fn the_bench_s_housekeeping() {
+    let bad = raw(false, Kind::ImgImage, [5, 0]);
+    let flush = raw(false, Kind::TlmFlush, [0; 2]);
+    let items = [
+        housekeeping(18),
+        run(12_288, &bad, &[&flush[..], &bad, &flush].concat()),
+        now(Kind::Open, 2),
+        append(Kind::TlmFlush, 0),
+        housekeeping(255),
+        housekeeping(17),
+        typed(12_288, &[], b"#\nopen 2\n"),
+        housekeeping(18),
+    ];
+    let expected = "housekeeping 0 0 0 0 192 1204000000001304000000001401001501c0\n\
+                    run 0 1 3\nrecord 010802000000000100000000\n\
+                    record 020000000000000100000000\nrecord 020802000000000200000000\n\
+                    record 020000000000000300000000\nrest same\n\
+                    command 0 0 0 0 0\ncommand 0 0 0 0 0\n\
+                    housekeeping 0 3 2 8 191 1204000000031304000000021401081501bf\n\
+                    housekeeping 24\n\
+                    typed 0 0 0 0 0 0 0 1\nrecord 020c00000000000200000000\nrest same\n\
+                    housekeeping 0 2 2 12 191 12040000000213040000000214010c1501bf\n";
+    assert_eq!(answer(&items), expected);
+}
+
+#[test]
+fn tagged_items_read_and_written() {
+    let bytes = [
+        0x12, 4, 0, 0, 1, 2, 0x13, 4, 0xff, 0xff, 0xff, 0xff, 0x14, 1, 50, 0x15, 1, 255,
+    ];
+    let mut other_tag = bytes;
+    other_tag[12] = 0x15;
+    let mut other_length = bytes;
+    other_length[16] = 0;
+    let items = [
+        tags(18, &bytes),
+        tags(17, &bytes),
+        tags(18, &bytes[..17]),
+        tags(18, &other_tag),
+        tags(18, &other_length),
+        tags(18, &[&bytes[..], &[0x12]].concat()),
+    ];
+    let expected = "tags 0 258 4294967295 50 255 0 1204000001021304ffffffff1401321501ff\n\
+                    tags 0 258 4294967295 50 255 24\n\
+                    tags 47\ntags 48\ntags 49\ntags 50\n";
+    assert_eq!(answer(&items), expected);
+}
+
+#[test]
 fn scripts_that_end_badly() {
     assert_eq!(answer(&[]), "");
     assert_eq!(answer(&[second(), vec![1, 1]]), "second 0 0\nbad script\n");
     assert_eq!(answer(&[vec![10], second()]), "bad script\n");
-    assert_eq!(answer(&[vec![14], second()]), "bad script\n");
+    assert_eq!(answer(&[vec![14]]), "bad script\n");
+    assert_eq!(answer(&[vec![15, 18, 1]]), "bad script\n");
+    assert_eq!(answer(&[vec![16], second()]), "bad script\n");
     assert_eq!(transcript(&vec![4; 65_536]), "");
     assert_eq!(transcript(&vec![4; 65_537]), "too long\n");
 }

@@ -13,7 +13,7 @@ applied-requires : tie.Need-applied-requires
 applied-requires c κs = search needs
 
 returns : tie.Need-returns
-returns c = (rw (c .before .camera-after .ensures, c .applied .ensures), c .before .before .keep .ensures)
+returns c = (rw (c .before .before .camera-after .ensures, c .before .applied .ensures), c .before .before .before .keep .ensures)
 
 pub take-effect-spec : {M : Type 1} → statement M
 take-effect-spec = tie.close (tie.spec keep-requires camera-after-requires applied-requires returns)

@@ -8,6 +8,7 @@ ghost use Rattle.walk.specs.Walk.{rests};
 ghost use Rattle.report.specs.Record.{recordLength};
 ghost use Rattle.text.specs.Findings.{finding, nothing, firstFound};
 ghost use Rattle.text.specs.Assemble.{bytesIn, textFindings};
+ghost use Rattle.bench.specs.Run.{endedAs};
 ghost use Rattle.bench.specs.Typed.{typedList, begunFinding, typedRanOf, typedOf, typedRoom};
 ghost use Rattle.bench.specs.Steps.{benchOf, AtWork, refusedTyped};
 use super::super::Bench;
@@ -19,6 +20,7 @@ use super::super::deciding::put_decided;
 use super::super::survey;
 use super::super::take_effect;
 use super::Part;
+use super::ended;
 use super::run_list;
 use text::Fault;
 use text::Finding;
@@ -98,6 +100,18 @@ fn run_lines(works: Works, pool: &mut [u32; 576], text: &[u8], room: &mut [u8]) 
     Part { works, count }
 }
 
+// A text that was judged good, with which a run ends.
+fn run_text(works: Works, pool: &mut [u32; 576], text: &[u8], room: &mut [u8]) -> Part
+    requires { ⌜ (firstFound (textFindings (now text)) ≡ nothing) × (length (rests (bytesIn (now text))) * recordLength ≤ length (now room)) ⌝ }
+    requires { ⌜ AtWork works (now pool) ⌝ }
+    ensures { λ r. ⌜ benchOf (r .works) (now (pool .exit)) ≡ endedAs (typedList (benchOf works (now (pool .entry))) (now (text .entry))) (length (rests (bytesIn (now (text .entry))))) ⌝ }
+    ensures { λ r. ⌜ r .count ≡ length (rests (bytesIn (now (text .entry)))) ⌝ }
+    ensures { λ r. ⌜ now (room .exit) ≡ written (typedList (benchOf works (now (pool .entry))) (now (text .entry)) .records) (now (room .entry)) ⌝ }
+{
+    let part = run_lines(works, pool, text, room);
+    ended(part, room)
+}
+
 // A run whose lists were judged: 21, then 27, then the kit's list and the pupil's.
 fn run_judged(bench: Bench, kit: &[u8], text: &[u8], room: &mut [u8]) -> TypedRan
     requires { ⌜ (length (now kit) ≤ 4096) × (firstFound (textFindings (now text)) ≡ nothing) ⌝ }
@@ -118,7 +132,7 @@ fn run_judged(bench: Bench, kit: &[u8], text: &[u8], room: &mut [u8]) -> TypedRa
     let works = Works { tally, ..works };
     let first = run_list(works, &mut pool, kit, walk::KIT, room);
     let end = (first.count as usize) * report::RECORD;
-    let second = run_lines(first.works, &mut pool, text, &mut room[end..]);
+    let second = run_text(first.works, &mut pool, text, &mut room[end..]);
     let bench = bench_of(second.works, pool);
     TypedRan {
         bench,

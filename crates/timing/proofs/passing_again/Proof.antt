@@ -25,8 +25,8 @@ loop-less c = search needs
 loop-again : tie.Need-loop-again Inv-loop μ-loop
 loop-again c = search needs
 
-with-status-requires : tie.Need-with-status-requires Inv-loop μ-loop
-with-status-requires c κs = search needs
+with-bench-requires : tie.Need-with-bench-requires Inv-loop μ-loop
+with-bench-requires c κs = search needs
 
 returns : tie.Need-returns Inv-loop μ-loop
 returns c = search needs
@@ -42,5 +42,5 @@ passing-again-spec =
     add-i
     loop-less
     loop-again
-    with-status-requires
+    with-bench-requires
     returns)

@@ -30,8 +30,8 @@ loop-less c = search needs
 loop-again : tie.Need-loop-again Inv-loop μ-loop
 loop-again c = search needs
 
-with-status-requires : tie.Need-with-status-requires Inv-loop μ-loop
-with-status-requires c κs = search needs
+with-bench-requires : tie.Need-with-bench-requires Inv-loop μ-loop
+with-bench-requires c κs = search needs
 
 same-length : tie.Need-same-length Inv-loop μ-loop
 same-length c = search needs
@@ -51,6 +51,6 @@ timing-run-spec =
     add-i
     loop-less
     loop-again
-    with-status-requires
+    with-bench-requires
     same-length
     returns)

@@ -3,8 +3,8 @@
 
 use super::items::{fresh, read, status, Item};
 use super::{
-    fixed_bench, fixed_dark, fixed_groups, fixed_lines, fixed_pool, fixed_range, fixed_range_lines,
-    fixed_text, fixed_wire,
+    fixed_bench, fixed_dark, fixed_groups, fixed_housekeeping, fixed_lines, fixed_pool,
+    fixed_range, fixed_range_lines, fixed_tags, fixed_text, fixed_wire,
 };
 use crate::replay::LONGEST_SCRIPT;
 
@@ -22,6 +22,8 @@ pub fn scripts() -> Vec<Vec<Item>> {
     episodes.extend(fixed_wire::episodes());
     episodes.extend(fixed_lines::episodes());
     episodes.extend(fixed_text::episodes());
+    episodes.extend(fixed_housekeeping::episodes());
+    episodes.extend(fixed_tags::episodes());
     let mut scripts = packed(episodes);
     scripts.push(Vec::new());
     scripts.extend(bad_scripts());
@@ -52,7 +54,7 @@ fn packed(episodes: Vec<Vec<Item>>) -> Vec<Vec<Item>> {
 
 /// Items cut off at every sort of place, and first bytes that start no item.
 fn bad_scripts() -> Vec<Vec<Item>> {
-    let ends: [&[u8]; 19] = [
+    let ends: [&[u8]; 22] = [
         &[0x01],
         &[0x01, 5, 1, 0x5a, 0, 2],
         &[0x03, 0x30, 0x00, 0, 0],
@@ -71,6 +73,9 @@ fn bad_scripts() -> Vec<Vec<Item>> {
         &[0x0d, 0, 1, b'#', 0, 0, 0],
         &[0x0d, 0, 2, b'#'],
         &[0x0e],
+        &[0x0f, 18],
+        &[0x0f, 18, 6, 0x12, 4, 0, 0, 0],
+        &[0x10],
         &[0xff],
     ];
     ends.iter()

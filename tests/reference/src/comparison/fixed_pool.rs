@@ -47,29 +47,29 @@ pub fn episodes() -> Vec<Vec<Item>> {
     episodes
 }
 
-fn open(number: u32) -> Vec<u8> {
+pub(super) fn open(number: u32) -> Vec<u8> {
     raw(false, Kind::Open, [number, 0])
 }
 
-fn close() -> Vec<u8> {
+pub(super) fn close() -> Vec<u8> {
     raw(false, Kind::Close, [0; 2])
 }
 
 /// An entry that tells its macro and its place there, or the WAIT of that place.
-fn entry(number: u32, place: u32) -> Vec<u8> {
+pub(super) fn entry(number: u32, place: u32) -> Vec<u8> {
     if place as usize % EACH == EACH - 1 {
         return raw(true, Kind::Wait, [1, 0]);
     }
     raw(true, Kind::ImgRegion, [number, place])
 }
 
-fn entries(number: u32, count: usize) -> Vec<u8> {
+pub(super) fn entries(number: u32, count: usize) -> Vec<u8> {
     let places = 0..count as u32;
     places.flat_map(|place| entry(number, place)).collect()
 }
 
 /// A macro of so many entries, as a list.
-fn stored(number: u32, count: usize) -> Vec<u8> {
+pub(super) fn stored(number: u32, count: usize) -> Vec<u8> {
     [open(number), entries(number, count), close()].concat()
 }
 

@@ -3,8 +3,8 @@
 
 use crate::command::{Command, Kind};
 use crate::replay::{
-    ASSEMBLE, COMMAND, DECODED, FRAME, FRESH, LINE, LIST, PASSED, READ, RUN, SECOND, SHOWN, STATUS,
-    TYPED,
+    ASSEMBLE, COMMAND, DECODED, FRAME, FRESH, HOUSEKEEPING, LINE, LIST, PASSED, READ, RUN, SECOND,
+    SHOWN, STATUS, TAGS, TYPED,
 };
 use crate::wire::{sealed, unsealed};
 
@@ -111,6 +111,16 @@ pub fn line(text: &[u8], number: u32) -> Item {
     let mut item = vec![LINE];
     long_part(&mut item, text);
     item.extend(number.to_be_bytes());
+    item
+}
+
+pub fn housekeeping(room: u8) -> Item {
+    vec![HOUSEKEEPING, room]
+}
+
+pub fn tags(room: u8, bytes: &[u8]) -> Item {
+    let mut item = vec![TAGS, room];
+    short_part(&mut item, bytes);
     item
 }
 

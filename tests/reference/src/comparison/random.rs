@@ -65,7 +65,7 @@ impl Maker {
     }
 
     fn episode(&mut self) {
-        match self.rng.below(200) {
+        match self.rng.below(215) {
             0..=29 => self.macros_episode(),
             30..=49 => self.chatter_episode(),
             50..=59 => self.decoded_episode(),
@@ -79,9 +79,11 @@ impl Maker {
             125..=128 => self.line_episode(),
             129..=134 => self.pool_episode(),
             135..=154 => self.groups_episode(),
-            155..=158 => self.many_runs_episode(),
-            159..=170 => self.dark_episode(),
-            171..=198 => self.range_episode(),
+            155..=159 => self.many_runs_episode(),
+            160..=171 => self.dark_episode(),
+            172..=199 => self.range_episode(),
+            200..=206 => self.housekeeping_episode(),
+            207..=213 => self.tags_episode(),
             _ => self.long_text_episode(),
         }
     }
@@ -290,6 +292,7 @@ impl Maker {
             let (kit, pupil) = self.aimed_lists();
             let room = self.report_room();
             self.push_all([run(room, &kit, &pupil), status()]);
+            self.ask();
             let seconds = self.rng.below(6);
             self.push_all(watched(seconds));
         }

@@ -88,6 +88,9 @@ impl Maker {
             _ => self.send_as_text(commands),
         }
         self.push(status());
+        if self.rng.percent(50) {
+            self.ask();
+        }
     }
 
     fn send_singly(&mut self, commands: &[Command]) {

@@ -105,6 +105,7 @@ impl Maker {
         let (kit, pupil) = (self.past_list(30), self.past_list(30));
         let room = self.report_room();
         self.push_all([run(room, &kit, &pupil), status()]);
+        self.ask();
     }
 
     /// A kit with values in its records, before a text that is taken or is not.
@@ -116,5 +117,6 @@ impl Maker {
         };
         let room = self.report_room();
         self.push_all([typed(room, &kit, &text), status()]);
+        self.ask();
     }
 }

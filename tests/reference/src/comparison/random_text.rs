@@ -36,6 +36,7 @@ impl Maker {
             let (kit, text) = self.kit_and_text();
             let room = self.report_room();
             self.push_all([typed(room, &kit, &text), status()]);
+            self.ask();
         }
     }
 

@@ -118,7 +118,7 @@ fits c =
 
 run-list-requires : tie.Need-run-list-requires
 run-list-requires c κs =
-    let checked = c .before .before .before .before in
+    let checked = c .before .before .before .before .before in
     let surveyed = checked .before .before in
     let begin = entry surveyed in (
       (tested surveyed .before .before .if1 .left, omega (arith, fits checked)),
@@ -134,7 +134,7 @@ mul-end c = search needs
 
 -- Where the checks had passed, from the end of the kit's list.
 abbrev passing : tie.After-run-list → tie.Else4
-passing c = c .before .before .before .before .before
+passing c = c .before .before .before .before .before .before
 
 -- The kit's list was carried out from this bench on.
 first : (c : tie.After-run-list) → (let args = entry (passing c .before .before) .args in
@@ -160,17 +160,17 @@ left-fits c =
     rest-fits (args .self) (args .kit .now) numbers (args .pupil .now) (args .room .now) (own-even (args .pupil .now)) (fits (passing c))
     (kit-done .1 .0 .0) (kit-done .0) (kit-done .1 .1)
 
-sub-run-list : tie.Need-sub-run-list
-sub-run-list c = omega (arith, left-fits (c .before .before .before .before))
+sub-run-pupil : tie.Need-sub-run-pupil
+sub-run-pupil c = omega (arith, left-fits (c .before .before .before .before))
 
-part-run-list-start : tie.Need-part-run-list-start
-part-run-list-start c = omega (arith, left-fits (c .before .before .before .before))
+part-run-pupil-start : tie.Need-part-run-pupil-start
+part-run-pupil-start c = omega (arith, left-fits (c .before .before .before .before))
 
-part-run-list-end : tie.Need-part-run-list-end
-part-run-list-end c = search needs
+part-run-pupil-end : tie.Need-part-run-pupil-end
+part-run-pupil-end c = search needs
 
-run-list-requires-2 : tie.Need-run-list-requires-2
-run-list-requires-2 c κs =
+run-pupil-requires : tie.Need-run-pupil-requires
+run-pupil-requires c κs =
     let ran = c .before .before .before .before .before in
     let kit-done = first ran in
     let surveyed = passing ran .before .before in
@@ -195,12 +195,12 @@ returns-5 c =
     let ran = c .before .before .before in
     let ran-first = ran .before .before .before .before .before .before in
     let kit-done = first ran-first in
-    let pupil-done = ran .run-list2 .ensures in
+    let pupil-done = ran .run-pupil .ensures in
     let args = entry (passing ran-first .before .before) .args in
     let kit = args .kit .now in
     let pupil = args .pupil .now in
     let room = args .room .now in
-    run-done (args .self) kit pupil room (passed (passing ran-first)) (kit-done .1 .0 .0) (pupil-done .1 .0 .0)
+    run-done (args .self) kit pupil room (passed (passing ran-first)) (kit-done .1 .0 .0) (pupil-done .1 .0)
     (c .bench-of .ensures
     ∙ bench-left (args .self) kit (ownNumbers pupil) pupil room (own-even pupil) (fits (passing ran-first))
     (kit-done .1 .0 .0) (kit-done .0) (kit-done .1 .1) (pupil-done .0) (pupil-done .1 .1))
@@ -224,10 +224,10 @@ run-spec =
     run-list-requires
     cast-end
     mul-end
-    sub-run-list
-    part-run-list-start
-    part-run-list-end
-    run-list-requires-2
+    sub-run-pupil
+    part-run-pupil-start
+    part-run-pupil-end
+    run-pupil-requires
     bench-of-requires
     same-length
     returns-5)

@@ -66,7 +66,7 @@ says b typed sound = handed-kinds (b .store) (good-store b (record { sound = sou
 
 returns-3 : tie.Need-returns-3
 returns-3 c =
-    let camera = c .before .before .before .before .before .before in
+    let camera = c .before .before .before .before .before .before .before in
     let sound = camera .before .before .before in
     let step = sound .before .before in
     let obeys = rules step .before in

@@ -7,7 +7,7 @@ use mathlib.Core.Logic.{⊎-elim}
 use lib.ListN.{drop}
 use borrow.Author.Needs.{needs}
 use borrow.Author.Tests.{le-leb, lt-leb}
-use Rattle.wire.specs.Codes.{Check, firstOf}
+use Rattle.words.specs.Codes.{Check, firstOf}
 use Rattle.store.specs.Checks.{row16}
 use Rattle.store.specs.TallySteps.{entryChecks}
 use Rattle.store.proofs.checks.permits_entry.Statement.{statement}

@@ -3,7 +3,7 @@ use Prim.Native.Nat.{_+_, _-_}
 use mathlib.Core.Path.{sym, ap, _∙_}
 use native.Mathlib.Omega.{arith}
 use lib.ListN.{length}
-use Rattle.wire.proofs.Front.{Bytes}
+use Rattle.words.proofs.Front.{Bytes}
 use Rattle.walk.proofs.Turns.{CommandAt, command-at}
 use Rattle.text.specs.ListSteps.{offerOf}
 use Rattle.text.proofs.Listing.{Lining, lining-none, turn-bad, line-fits, turn-next, lining-ends, lined-long}

@@ -95,7 +95,7 @@ fits c =
 
 run-list-requires : tie.Need-run-list-requires
 run-list-requires c κs =
-    let checked = c .before .before .before .before in
+    let checked = c .before .before .before .before .before in
     let surveyed = checked .before .before in
     let begin = entry surveyed in (
       (begin .pre .0, omega (arith, fits checked)),
@@ -111,7 +111,7 @@ mul-end c = search needs
 
 -- Where the checks had passed, from the end of the kit's list.
 abbrev passing : tie.After-run-list → tie.Else2
-passing c = c .before .before .before .before .before
+passing c = c .before .before .before .before .before .before
 
 -- The kit's list was carried out from this bench on.
 first : (c : tie.After-run-list) → (let args = entry (passing c .before .before) .args in
@@ -138,17 +138,17 @@ left-fits c =
     rest-fits (args .bench) (args .kit .now) (lineNumbers text) (bytesIn text) (args .room .now) (typed-even text) (fits (passing c))
     (kit-done .1 .0 .0) (kit-done .0) (kit-done .1 .1)
 
-sub-run-lines : tie.Need-sub-run-lines
-sub-run-lines c = omega (arith, left-fits (c .before .before .before .before))
+sub-run-text : tie.Need-sub-run-text
+sub-run-text c = omega (arith, left-fits (c .before .before .before .before))
 
-part-run-lines-start : tie.Need-part-run-lines-start
-part-run-lines-start c = omega (arith, left-fits (c .before .before .before .before))
+part-run-text-start : tie.Need-part-run-text-start
+part-run-text-start c = omega (arith, left-fits (c .before .before .before .before))
 
-part-run-lines-end : tie.Need-part-run-lines-end
-part-run-lines-end c = search needs
+part-run-text-end : tie.Need-part-run-text-end
+part-run-text-end c = search needs
 
-run-lines-requires : tie.Need-run-lines-requires
-run-lines-requires c κs =
+run-text-requires : tie.Need-run-text-requires
+run-text-requires c κs =
     let ran = c .before .before .before .before .before in
     let kit-done = first ran in
     let begin = entry (passing ran .before .before) in
@@ -173,7 +173,7 @@ returns-3 c =
     let ran = c .before .before .before in
     let ran-first = ran .before .before .before .before .before .before in
     let kit-done = first ran-first in
-    let pupil-done = ran .run-lines .ensures in
+    let pupil-done = ran .run-text .ensures in
     let checked = passing ran-first in
     let surveyed = checked .before .before in
     let begin = entry surveyed in
@@ -202,10 +202,10 @@ run-judged-spec =
     run-list-requires
     cast-end
     mul-end
-    sub-run-lines
-    part-run-lines-start
-    part-run-lines-end
-    run-lines-requires
+    sub-run-text
+    part-run-text-start
+    part-run-text-end
+    run-text-requires
     bench-of-requires
     same-length
     returns-3)

@@ -4,7 +4,7 @@ use Prim.Native.Nat.{ℕ}
 use mathlib.Core.Path.{_≡_, sym, _∙_}
 use lib.ListN.{drop}
 use borrow.Author.Needs.{needs}
-use Rattle.wire.specs.Codes.{firstOf}
+use Rattle.words.specs.Codes.{firstOf}
 use Rattle.store.specs.Checks.{rowsFor}
 use Rattle.store.specs.SpanSteps.{lengthOf}
 use Rattle.store.specs.TallySteps.{usedBy, tallyCode}
