@@ -17,7 +17,7 @@ use Rattle.report.specs.declared.Latest.{Latest}
 use Rattle.bench.specs.declared.Bench.{Bench}
 use Rattle.bench.specs.Carry.{taken}
 use Rattle.bench.specs.Run.{numbersFrom, ownNumbers, runRests, kitPart, pupilWith, noting, endedWith, runCode, runOf}
-use Rattle.bench.specs.Typed.{typedFound, typedOf}
+use Rattle.bench.specs.Typed.{typedEnd, typedFound, typedOf}
 
 -- The bench that some commands leave.
 abbrev pub leftBy : Bench → List (List ℕ) → Bench
@@ -88,7 +88,7 @@ unfolding runOf
 run-left b kit pupil room accepted = rw accepted (both-ended b kit (ownNumbers pupil) pupil (own-even pupil))
 
 pub typed-left : (b : Bench) (kit text room : List ℕ) → typedOf b kit text room .found .told .code ≡ 0
-    → typedOf b kit text room .bench ≡ noting (leftBy b (rests kit ++ rests (bytesIn text))) (endedWith b kit (lineNumbers text) (bytesIn text) .latest)
+    → typedOf b kit text room .bench ≡ noting (leftBy b (rests kit ++ rests (bytesIn text))) (typedEnd b kit text .latest)
 unfolding typedOf
 typed-left b kit text room accepted = rw accepted (both-ended b kit (lineNumbers text) (bytesIn text) (typed-even text))
 

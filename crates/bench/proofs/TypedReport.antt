@@ -28,8 +28,8 @@ use Rattle.bench.specs.declared.Bench.{Bench}
 use Rattle.bench.specs.Status.{freshBench, benchSound}
 use Rattle.bench.specs.Carry.{stateChecks, bytesChecks, taken}
 use Rattle.bench.specs.Events.{Event, typed, after, Reached, accepts, acceptsAny}
-use Rattle.bench.specs.Run.{recordOf, kitPart, noting, endedWith, runOf, roomAfter}
-use Rattle.bench.specs.Typed.{typedFindings, typedFound, typedReport, typedOf, typedRoom}
+use Rattle.bench.specs.Run.{recordOf, kitPart, noting, runOf, roomAfter}
+use Rattle.bench.specs.Typed.{typedFindings, typedFound, typedEnd, typedReport, typedOf, typedRoom}
 use Rattle.bench.proofs.Outcomes.{behindCode, behind-told, read-then}
 use Rattle.bench.proofs.InTurn.{typed-even, run-left, typed-left}
 use Rattle.bench.proofs.Sound.{GoodBench}
@@ -96,7 +96,7 @@ module _ (b : Bench) (kit text room : List ℕ) (accepted : typedOf b kit text r
   unfolding typedOf
   pupil-count = rw accepted
 
-  pub bench-after : typedOf b kit text room .bench ≡ endedWith b kit (lineNumbers text) (bytesIn text)
+  pub bench-after : typedOf b kit text room .bench ≡ typedEnd b kit text
   unfolding typedOf
   bench-after = rw accepted
 

@@ -14,14 +14,13 @@ use Rattle.wire.specs.Judge.{plain}
 use Rattle.walk.specs.Walk.{rests}
 use Rattle.text.specs.declared.findings.Finding.{Finding}
 use Rattle.text.specs.Findings.{Outcome, finding, nothing, whole, firstFound}
-use Rattle.text.specs.Assemble.{lineNumbers, bytesIn, badLine, textFindings, judgedText}
+use Rattle.text.specs.Assemble.{bytesIn, badLine, textFindings, judgedText}
 use Rattle.text.proofs.Found.{found-append}
 use Rattle.bench.specs.declared.Bench.{Bench}
 use Rattle.bench.specs.declared.lists.typed.TypedBegun.{TypedBegun}
 use Rattle.bench.specs.declared.lists.typed.TypedRan.{TypedRan}
 use Rattle.bench.specs.Status.{benchSound, soundCheck}
-use Rattle.bench.specs.Run.{endedWith}
-use Rattle.bench.specs.Typed.{typedFound, typedReport, begunFinding, typedRanOf, typedOf, typedRoom}
+use Rattle.bench.specs.Typed.{typedFound, typedEnd, typedReport, begunFinding, typedRanOf, typedOf, typedRoom}
 use Rattle.bench.specs.Steps.{refusedTyped}
 
 -- What is found of the run behind a text that was judged good: 21, then 27.
@@ -94,7 +93,7 @@ module _ (b : Bench) (kit text room : List ℕ) where
 
   -- A run that was carried out.
   pub run-done : {m n : ℕ} {b₂ : Bench} {left : List ℕ} → typedFound b kit text room ≡ nothing → m ≡ length (rests kit)
-      → n ≡ length (rests (bytesIn text)) → b₂ ≡ endedWith b kit (lineNumbers text) (bytesIn text) → left ≡ written (typedReport b kit text) room
+      → n ≡ length (rests (bytesIn text)) → b₂ ≡ typedEnd b kit text → left ≡ written (typedReport b kit text) room
       → Promise (record { bench = b₂; begun = TypedBegun.Done; kit = m; pupil = n }) left
   unfolding typedOf typedRoom
   run-done found m-is n-is bench-is room-is = (rw (found, bench-is, m-is, n-is), rw found room-is)

@@ -17,7 +17,7 @@ use Rattle.bench.specs.declared.Bench.{Bench}
 use Rattle.bench.specs.declared.lists.typed.TypedBegun.{TypedBegun}
 use Rattle.bench.specs.declared.lists.typed.TypedRan.{TypedRan}
 use Rattle.bench.specs.Status.{soundCheck}
-use Rattle.bench.specs.Run.{Listed, runList, pupilWith, endedWith, reportWith}
+use Rattle.bench.specs.Run.{Listed, runList, endedWith, reportWith}
 
 -- "20 first, for text above 32,768 bytes or a raw list above 4,096", the first bad line, 20 where the typed list would be above 4,096 bytes, then
 -- 01's 21 and 27.
@@ -37,9 +37,9 @@ typedFound b kit text room = firstFound (typedFindings b kit text room)
 abbrev pub typedList : Bench → List ℕ → Listed
 typedList b text = runList b 2 (lineNumbers text) (bytesIn text)
 
--- behind the kit's list, and the records of both.
-abbrev pub typedPart : Bench → List ℕ → List ℕ → Listed
-typedPart b kit text = pupilWith b kit (lineNumbers text) (bytesIn text)
+-- behind the kit's list: the bench as that run ends, and the records of both.
+abbrev pub typedEnd : Bench → List ℕ → List ℕ → Bench
+typedEnd b kit text = endedWith b kit (lineNumbers text) (bytesIn text)
 
 abbrev pub typedReport : Bench → List ℕ → List ℕ → List ℕ
 typedReport b kit text = reportWith b kit (lineNumbers text) (bytesIn text)
@@ -66,7 +66,7 @@ abbrev pub typedFor : Finding → Bench → List ℕ → List ℕ → TypedTold
 typedFor found b kit text =
     record {
       found = found;
-      bench = cond (eqb (found .told .code) 0) (endedWith b kit (lineNumbers text) (bytesIn text)) b;
+      bench = cond (eqb (found .told .code) 0) (typedEnd b kit text) b;
       kit = cond (eqb (found .told .code) 0) (length (rests kit)) 0;
       pupil = cond (eqb (found .told .code) 0) (length (rests (bytesIn text))) 0;
     }

@@ -1,5 +1,5 @@
 -- Frames can be written as well as read, and come back equal.
-use Prim.Native.Nat.{ℕ, zero, suc, _+_, _*_, _/_, _%_, _<_, _≤_, _^_}
+use Prim.Native.Nat.{ℕ, zero, suc, _+_, _/_, _%_, _<_, _≤_, _^_}
 use mathlib.Core.Path.{_≡_, refl, sym, ap, _∙_}
 use mathlib.Core.List.{List, [], _∷_}
 use mathlib.Core.Bool.{Bool, true, false, _&&_}
@@ -12,7 +12,7 @@ use borrow.Author.Tests.{eq-eqb, eqb-true, eqb-false, not-false}
 use Rattle.words.specs.BigEndian.{byteAt, halfAt, wordAt, bytesOf}
 use Rattle.words.proofs.Tests.{both}
 use Rattle.words.proofs.Order.{due-none}
-use Rattle.words.proofs.Front.{Bytes, frontWords, front-made}
+use Rattle.words.proofs.Front.{Bytes, half-back, word-back, frontWords, front-made}
 use Rattle.frame.specs.declared.Frame.{Frame}
 use Rattle.frame.specs.Rules.{frameRule}
 use Rattle.frame.specs.Bytes.{bit, modesOf, frameBytes, frameAt, spareBitsZero, countHolds}
@@ -22,13 +22,6 @@ use Rattle.frame.proofs.Laws.{Held, ruled}
 use Rattle.frame.proofs.Modes.{bit-le, modes-le}
 use Rattle.frame.proofs.Bytes.{frameWords, frame-words, words-bytes}
 use Rattle.frame.proofs.Answers.{takenAs, taken}
-
--- A number's bytes make the number again.
-half-back : (v : ℕ) → v / 256 * 256 + v % 256 ≡ v
-half-back v = omega arith
-
-word-back : (v : ℕ) → v / 65536 * 65536 + v % 65536 ≡ v
-word-back v = omega arith
 
 -- Byte 24 gives back each flag and the algorithm, and its spare bits are zero.
 bit-back : (on : Bool) → eqb (bit on) 1 ≡ on

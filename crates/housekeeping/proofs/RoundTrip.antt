@@ -1,5 +1,5 @@
 -- The housekeeping frame can be written as well as read, and comes back equal; and no other bytes read as the same numbers.
-use Prim.Native.Nat.{ℕ, _+_, _*_, _/_, _%_, _≤_}
+use Prim.Native.Nat.{ℕ, _+_, _≤_}
 use mathlib.Core.Path.{_≡_, refl, sym, ap, ap₂, _∙_}
 use mathlib.Core.List.{List, [], _∷_, _++_}
 use mathlib.Core.Bool.{false, not}
@@ -10,20 +10,13 @@ use lib.Dec.{eqb}
 use borrow.Author.Tests.{eqb-true, ltb-false, not-false}
 use Rattle.words.specs.BigEndian.{byteAt, wordAt, wordBytes}
 use Rattle.words.proofs.Order.{NoneDue}
-use Rattle.words.proofs.Front.{Bytes, bytes-back, frontBytes, front-bytes}
+use Rattle.words.proofs.Front.{Bytes, half-back, word-back, bytes-back, frontBytes, front-bytes}
 use Rattle.housekeeping.specs.declared.Housekeeping.{Housekeeping}
 use Rattle.housekeeping.specs.declared.Item.{Item}
 use Rattle.housekeeping.specs.Frame.{itemBytes, frameBytes, frameAt}
 use Rattle.housekeeping.specs.Answers.{Answer, readChecks, readCode, readOf}
 use Rattle.housekeeping.proofs.Order.{read-order}
 use Rattle.housekeeping.proofs.Answers.{takenAs, taken}
-
--- A number's bytes make the number again.
-half-back : (v : ℕ) → v / 256 * 256 + v % 256 ≡ v
-half-back v = omega arith
-
-word-back : (v : ℕ) → v / 65536 * 65536 + v % 65536 ≡ v
-word-back v = omega arith
 
 -- A frame has 18 bytes, they say its numbers, and reading them gives these.
 pub frame-length : (h : Housekeeping) → length (frameBytes h) ≡ 18

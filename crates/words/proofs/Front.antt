@@ -13,6 +13,13 @@ use Rattle.words.proofs.Laws.{bytesOf-append}
 abbrev pub Bytes : List ℕ → Type 0
 Bytes s = (i : ℕ) → getD s i 0 < 256
 
+-- A number's bytes make the number again.
+pub half-back : (v : ℕ) → v / 256 * 256 + v % 256 ≡ v
+half-back v = omega arith
+
+pub word-back : (v : ℕ) → v / 65536 * 65536 + v % 65536 ≡ v
+word-back v = omega arith
+
 -- Four bytes that were read as a word are its bytes.
 four : (u : List ℕ) → 4 ≤ length u → take 4 u ≡ byteAt u 0 ∷ byteAt u 1 ∷ byteAt u 2 ∷ byteAt u 3 ∷ []
 four [] h = absurd (omega arith)
