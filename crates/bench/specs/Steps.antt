@@ -17,6 +17,8 @@ use Rattle.camera.specs.declared.Camera.{Camera}
 use Rattle.store.specs.declared.tally.Tally.{Tally}
 use Rattle.store.specs.declared.tally.Survey.{Survey}
 use Rattle.store.specs.TallySteps.{tallyOf, bareOf, storeOf, tallyChecks, tallyAfter, poolAfter, Tallied}
+use Rattle.walk.specs.Walk.{rests}
+use Rattle.text.specs.Assemble.{bytesIn}
 use Rattle.report.specs.declared.Latest.{Latest}
 use Rattle.bench.specs.declared.Bench.{Bench}
 use Rattle.bench.specs.declared.Works.{Works}
@@ -28,6 +30,8 @@ use Rattle.bench.specs.declared.lists.typed.TypedBegun.{TypedBegun}
 use Rattle.bench.specs.declared.lists.typed.TypedRan.{TypedRan}
 use Rattle.bench.specs.Status.{benchSound}
 use Rattle.bench.specs.Carry.{Outcome, verdictOf, cameraAfter, darkCheck}
+use Rattle.bench.specs.Run.{ownList, endedAs}
+use Rattle.bench.specs.Typed.{typedList}
 use Rattle.bench.specs.Second.{SecondTold, codesShown, executedAll, handedCodes}
 
 -- A bench at work, its pool lent beside it: what of a bench is at work, before the lengths of its macros are worked out; the bench that works and pool
@@ -49,6 +53,13 @@ pub record AtWork (w : Works) (pool : List ℕ) : Type 0 where
   pub whole : length pool ≡ 576
   pub sound : benchSound (benchOf w pool) ≡ true
   pub tallied : Tallied (storeOf pool (w .tally)) (w .tally)
+
+-- `run_pupil`, `run_text`: the bench as the pupil's list, raw or typed, ends a run.
+abbrev pub listEnd : Bench → List ℕ → Bench
+listEnd b list = endedAs (ownList b 2 list) (length (rests list))
+
+abbrev pub textEnd : Bench → List ℕ → Bench
+textEnd b text = endedAs (typedList b text) (length (rests (bytesIn text)))
 
 -- What a decision says: what is told, and the command where the code is 0.
 abbrev pub decisionOf : Decision → Answer

@@ -6,8 +6,8 @@ ghost use Rattle.words.specs.BigEndian.{written};
 ghost use Rattle.walk.specs.Walk.{rests};
 ghost use Rattle.report.specs.Record.{recordLength};
 ghost use Rattle.report.specs.Latest.{latestOf};
-ghost use Rattle.bench.specs.Run.{begunCode, ownList, endedAs, ranOf, runOf, roomAfter};
-ghost use Rattle.bench.specs.Steps.{benchOf, worksNoting, AtWork, refusedWith};
+ghost use Rattle.bench.specs.Run.{begunCode, ownList, ranOf, runOf, roomAfter};
+ghost use Rattle.bench.specs.Steps.{benchOf, worksNoting, listEnd, AtWork, refusedWith};
 
 mod typed;
 
@@ -100,7 +100,7 @@ fn ended(part: Part, records: &[u8]) -> Part
 fn run_pupil(works: Works, pool: &mut [u32; 576], list: &[u8], room: &mut [u8]) -> Part
     requires { ⌜ (length (now list) ≤ 4096) × (length (rests (now list)) * recordLength ≤ length (now room)) ⌝ }
     requires { ⌜ AtWork works (now pool) ⌝ }
-    ensures { λ r. ⌜ benchOf (r .works) (now (pool .exit)) ≡ endedAs (ownList (benchOf works (now (pool .entry))) 2 (now (list .entry))) (length (rests (now (list .entry)))) ⌝ }
+    ensures { λ r. ⌜ benchOf (r .works) (now (pool .exit)) ≡ listEnd (benchOf works (now (pool .entry))) (now (list .entry)) ⌝ }
     ensures { λ r. ⌜ r .count ≡ length (rests (now (list .entry))) ⌝ }
     ensures { λ r. ⌜ now (room .exit) ≡ written (ownList (benchOf works (now (pool .entry))) 2 (now (list .entry)) .records) (now (room .entry)) ⌝ }
 {

@@ -8,9 +8,8 @@ ghost use Rattle.walk.specs.Walk.{rests};
 ghost use Rattle.report.specs.Record.{recordLength};
 ghost use Rattle.text.specs.Findings.{finding, nothing, firstFound};
 ghost use Rattle.text.specs.Assemble.{bytesIn, textFindings};
-ghost use Rattle.bench.specs.Run.{endedAs};
 ghost use Rattle.bench.specs.Typed.{typedList, begunFinding, typedRanOf, typedOf, typedRoom};
-ghost use Rattle.bench.specs.Steps.{benchOf, AtWork, refusedTyped};
+ghost use Rattle.bench.specs.Steps.{benchOf, textEnd, AtWork, refusedTyped};
 use super::super::Bench;
 use super::super::Works;
 use super::super::bench_of;
@@ -104,7 +103,7 @@ fn run_lines(works: Works, pool: &mut [u32; 576], text: &[u8], room: &mut [u8]) 
 fn run_text(works: Works, pool: &mut [u32; 576], text: &[u8], room: &mut [u8]) -> Part
     requires { ⌜ (firstFound (textFindings (now text)) ≡ nothing) × (length (rests (bytesIn (now text))) * recordLength ≤ length (now room)) ⌝ }
     requires { ⌜ AtWork works (now pool) ⌝ }
-    ensures { λ r. ⌜ benchOf (r .works) (now (pool .exit)) ≡ endedAs (typedList (benchOf works (now (pool .entry))) (now (text .entry))) (length (rests (bytesIn (now (text .entry))))) ⌝ }
+    ensures { λ r. ⌜ benchOf (r .works) (now (pool .exit)) ≡ textEnd (benchOf works (now (pool .entry))) (now (text .entry)) ⌝ }
     ensures { λ r. ⌜ r .count ≡ length (rests (bytesIn (now (text .entry)))) ⌝ }
     ensures { λ r. ⌜ now (room .exit) ≡ written (typedList (benchOf works (now (pool .entry))) (now (text .entry)) .records) (now (room .entry)) ⌝ }
 {
