@@ -1,6 +1,6 @@
 -- What the last records of a report say: of one record, of a step back from the last, of a report that goes on, and which one is the last that failed.
-use Prim.Native.Nat.{ℕ, zero, suc, _+_, _*_, _-_, _≤_, _<_}
-use mathlib.Core.Path.{_≡_, refl, sym, ap}
+use Prim.Native.Nat.{ℕ, zero, suc, _+_, _*_, _-_, _/_, _≤_, _<_}
+use mathlib.Core.Path.{_≡_, refl, sym, ap, _∙_}
 use mathlib.Core.Logic.{_≢_}
 use mathlib.Core.List.{List, _++_}
 use mathlib.Core.Bool.{Bool, true, false, cond}
@@ -9,7 +9,7 @@ use lib.ListN.{length}
 use lib.Dec.{eqb}
 use borrow.Author.Tests.{eq-eqb, ne-eqb, eqb-true, eqb-false}
 use Rattle.words.specs.BigEndian.{byteAt, wordAt}
-use Rattle.words.proofs.Laws.{byte-on, word-on}
+use Rattle.words.proofs.Laws.{byte-past, byte-on, word-on}
 use Rattle.report.specs.Record.{recordLength}
 use Rattle.report.specs.Latest.{numberIn, codeIn, lastFailed, latestOf}
 
@@ -84,3 +84,20 @@ pub none-failed : (report : List ℕ) (n : ℕ) → ((k : ℕ) → k < n → cod
 none-failed report zero passes = refl
 none-failed report (suc n) passes =
     rw (eq-eqb (codeIn report (suc n)) 0 (passes n (omega arith))) (none-failed report n (λ k within. passes k (omega arith)))
+
+-- No record behind the end of a report failed.
+failed-past : (report : List ℕ) (n more : ℕ) → length report / recordLength + 1 ≤ n → lastFailed report (more + n) ≡ lastFailed report n
+failed-past report n zero past =
+    let none : zero + n ≡ n = omega arith in
+    ap (lastFailed report) none
+failed-past report n (suc more) past =
+    let one : suc more + n ≡ suc (more + n) = omega arith in
+    let none : codeIn report (suc (more + n)) ≡ 0 = byte-past report ((more + n) * recordLength + 1) (omega arith) in
+    rw (one, eq-eqb (codeIn report (suc (more + n))) 0 none) (failed-past report n more past)
+
+pub asked-enough : (report : List ℕ) (count : ℕ) → length report / recordLength < count
+    → lastFailed report (length report / recordLength + 1) ≡ lastFailed report count
+asked-enough report count fewer =
+    let n = length report / recordLength + 1 in
+    let all : (count - n) + n ≡ count = omega arith in
+    sym (failed-past report n (count - n) (omega arith)) ∙ ap (lastFailed report) all

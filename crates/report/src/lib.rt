@@ -1,7 +1,9 @@
 // One record of the report, in the front of a lent part; and what the last records of a report say.
+ghost use Prim.Native.Nat.{_+_, _/_, _≤_};
 ghost use mathlib.Core.Path.{_≡_};
+ghost use lib.ListN.{length};
 ghost use Rattle.words.specs.BigEndian.{written};
-ghost use Rattle.report.specs.Record.{recordBytes, codeOf, putCode};
+ghost use Rattle.report.specs.Record.{recordBytes, recordLength, codeOf, putCode};
 ghost use Rattle.report.specs.Latest.{noLatest, numberIn, codeIn, lastFailed, latestOf};
 
 // The bytes of a record.
@@ -81,11 +83,23 @@ fn code_in(report: &[u8], nth: u32) -> u8
     words::byte_at(report, (nth as usize - 1) * RECORD + CODE_AT)
 }
 
+// How many of so many records have to be asked: none behind the report's end has a code, however many are said to be there.
+fn asked_of(report: &[u8], count: u32) -> u32
+    ensures { λ r. ⌜ lastFailed (now (report .entry)) r ≡ lastFailed (now (report .entry)) count ⌝ }
+    ensures { λ r. ⌜ r ≤ length (now (report .entry)) / recordLength + 1 ⌝ }
+{
+    let whole = report.len() / RECORD;
+    if whole < count as usize {
+        return whole as u32 + 1;
+    }
+    count
+}
+
 // The last of so many records whose code is not 0, looked for from the last one back.
 fn last_failed(report: &[u8], count: u32) -> u32
     ensures { λ r. ⌜ r ≡ lastFailed (now (report .entry)) count ⌝ }
 {
-    let mut left = count;
+    let mut left = asked_of(report, count);
     while 0 < left {
         if code_in(report, left) != 0 {
             return left;
