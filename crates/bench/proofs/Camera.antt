@@ -59,18 +59,16 @@ allowed-range c h =
     let bad = badIn (partsOf (c .kind)) in
     eqb-true bad 0 (not-false (eqb bad 0) (due-none (argChecks c) refl h .0))
 
-second-in : (a b : Bool) → _≡_ {A = ℕ} (cond a (cond b 0 2) 1) 0 → b ≡ true
-second-in true true e = refl
-second-in true false e = absurd (omega arith)
-second-in false b e = absurd (omega arith)
+both-in : (a b : Bool) → _≡_ {A = ℕ} (cond a (cond b 0 2) 1) 0 → (a ≡ true) × (b ≡ true)
+both-in true true e = (refl, refl)
+both-in true false e = absurd (omega arith)
+both-in false b e = absurd (omega arith)
 
--- The interval that IMAGE or TRACK may set is at least 1.
-interval-least : (time interval : ℕ) → firstBad (rowOf Form.ImgImage) time interval ≡ 0 → 1 ≤ interval
-interval-least time interval h =
-    let range : (leb 1 interval && leb interval 65535) ≡ true =
-    second-in (leb 0 time && leb time 65535) (leb 1 interval && leb interval 65535) h
-    in
-    leb-true 1 interval (both (leb 1 interval) (leb interval 65535) range .0)
+-- The time that IMAGE or TRACK may set is at most 65535, and the interval at least 1.
+pub series-range : (time interval : ℕ) → firstBad (rowOf Form.ImgImage) time interval ≡ 0 → (time ≤ 65535) × (1 ≤ interval)
+series-range time interval h =
+    let range = both-in (leb 0 time && leb time 65535) (leb 1 interval && leb interval 65535) h in
+    (leb-true time 65535 (both (leb 0 time) (leb time 65535) (range .0) .1), leb-true 1 interval (both (leb 1 interval) (leb interval 65535) (range .1) .0))
 
 -- No rule speaks of the three flags and of the flush count.
 modes-good : (c : Camera) → GoodCamera c → (power auto looping : Bool) (flushes : ℕ)
@@ -97,7 +95,7 @@ executed-good c good flag kind h = go kind (allowed-range (record { flag = flag;
     go (Kind.ImgTrack time interval) e =
         record {
           image = good .image;
-          track = started-good (c .track) time interval (interval-least time interval e);
+          track = started-good (c .track) time interval (series-range time interval e .1);
           x = good .x;
           y = good .y;
           goal = good .goal;
@@ -108,7 +106,7 @@ executed-good c good flag kind h = go kind (allowed-range (record { flag = flag;
     go (Kind.TrkLoop mode) e = modes-good c good (c .power) (c .auto) (isOn mode) (c .flushes)
     go (Kind.ImgImage time interval) e =
         record {
-          image = started-good (c .image) time interval (interval-least time interval e);
+          image = started-good (c .image) time interval (series-range time interval e .1);
           track = good .track;
           x = good .x;
           y = good .y;

@@ -278,7 +278,7 @@ module _ (b : Bench) (good : GoodBench b) where
   unfolding secondAt
   handed-is = rw (good .sound)
 
-  codes-are : secondAt b .codes ≡ handedCodes (cameraSecond (b .camera)) (secondAt b .handed)
+  pub codes-are : secondAt b .codes ≡ handedCodes (cameraSecond (b .camera)) (secondAt b .handed)
   unfolding secondAt
   codes-are = rw (good .sound)
 

@@ -25,8 +25,8 @@ use Rattle.bench.specs.Status.{freshBench, FreeTold, freeAt}
 use Rattle.bench.specs.Carry.{outcomeFor, effectOf, carryCode, carryOut, carryBytesCode, carryOutBytes}
 use Rattle.bench.specs.Second.{secondAt}
 use Rattle.bench.specs.Events.{Reached, executes}
-use Rattle.bench.proofs.Outcomes.{behind-code, judge-then, carry-code, carry-bytes-code}
-use Rattle.bench.proofs.Sound.{GoodBench, good-store, fresh-sound, Accepted, judge-accepted, read-accepted, effect-keeps}
+use Rattle.bench.proofs.Outcomes.{behind-code, carry-code}
+use Rattle.bench.proofs.Sound.{GoodBench, good-store, fresh-sound, Accepted, command-accepted, bytes-accepted, effect-keeps}
 use Rattle.bench.proofs.Sound.{second-is, second-sound, reached-sound}
 
 -- A sound bench tells the free entries of its store.
@@ -87,19 +87,19 @@ module _ (b : Bench) (good : GoodBench b) (c : Command) where
 pub command-free : (b : Bench) → GoodBench b → (c : Command) → FreeAfter b c (carryOut b c .told .code) (carryOut b c .bench)
 unfolding carryOut
 command-free b good c =
-    by-code b good c (partsOf (c .kind)) (carryCode b c) (λ none. judge-accepted b c (judge-then b c ∙ sym (carry-code b c (good .sound)) ∙ none))
+    by-code b good c (partsOf (c .kind)) (carryCode b c) (command-accepted b good c)
 
 pub bytes-free : (b : Bench) → GoodBench b → (s : List ℕ) → FreeAfter b (said s) (carryOutBytes b s .told .code) (carryOutBytes b s .bench)
 unfolding carryOutBytes
 bytes-free b good s =
-    by-code b good (said s) (saidParts s) (carryBytesCode b s) (λ none. read-accepted b s (sym (carry-bytes-code b s (good .sound)) ∙ none))
+    by-code b good (said s) (saidParts s) (carryBytesCode b s) (bytes-accepted b good s)
 
 -- An accepted append stands behind the entries that the open macro had, where the command is one that a program can hold, and leaves the entries of
 -- every other macro.
 module _ (b : Bench) (good : GoodBench b) (c : Command) (flag : c .flag ≡ true) (none : carryOut b c .told .code ≡ 0) where
   passed : Accepted b c
   unfolding carryOut
-  passed = judge-accepted b c (judge-then b c ∙ sym (carry-code b c (good .sound)) ∙ none)
+  passed = command-accepted b good c none
 
   left-is : carryOut b c .bench ≡ effectOf b c
   unfolding carryOut

@@ -1,15 +1,18 @@
 -- Laws of the bench, in two groups: what a reader wants to know (`Demands` is the file to open first; `Cases` has 01's starred examples, `Dark` what
--- is said of the power, `FreeEntries` of the free macro entries, `Report`, `TypedReport` and `LineShown` what a moderator asks of the records), and the
--- laws behind those and behind single functions.
+-- is said of the power, `FreeEntries` of the free macro entries, `HowMany` of the pictures that come, `Report`, `TypedReport` and `LineShown` what a
+-- moderator asks of the records), and the laws behind those and behind single functions.
 pub mod Demands
 pub mod Cases
 pub mod Dark
 pub mod FreeEntries
+pub mod HowMany
 pub mod Report
 pub mod TypedReport
 pub mod LastNumbers
 pub mod LineShown
 pub mod Slips
+pub mod Sorts
+pub mod InEffect
 pub mod Unique
 pub mod UniqueRun
 pub mod UniqueTyped

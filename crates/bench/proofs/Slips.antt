@@ -13,6 +13,7 @@ use Rattle.bench.specs.declared.Bench.{Bench}
 use Rattle.bench.specs.Status.{benchSound}
 use Rattle.bench.specs.Second.{handedTo, executedAll, secondAt}
 use Rattle.bench.proofs.Dark.{lit-handed, on-lit}
+use Rattle.bench.proofs.Sorts as sorts
 
 -- What a second hands over counts no image: executing a kind leaves both counts.
 pub record SameCounts (a b : Camera) : Type 0 where
@@ -20,21 +21,11 @@ pub record SameCounts (a b : Camera) : Type 0 where
   pub tracked : a .track .count ≡ b .track .count
 
 executing : (c : Camera) (k : Kind) → SameCounts (executedOf c k) c
-executing c (Kind.ImgPwr mode) = record { images = refl; tracked = refl }
-executing c (Kind.ImgRegion x y) = record { images = refl; tracked = refl }
-executing c (Kind.ImgTrack time interval) = record { images = refl; tracked = refl }
-executing c (Kind.TrkAlg mode) = record { images = refl; tracked = refl }
-executing c (Kind.TrkLoop mode) = record { images = refl; tracked = refl }
-executing c (Kind.ImgImage time interval) = record { images = refl; tracked = refl }
-executing c (Kind.TrkGoal x y) = record { images = refl; tracked = refl }
-executing c Kind.TlmFlush = record { images = refl; tracked = refl }
-executing c (Kind.FlushAuto mode) = record { images = refl; tracked = refl }
-executing c (Kind.Open number) = record { images = refl; tracked = refl }
-executing c Kind.Close = record { images = refl; tracked = refl }
-executing c (Kind.Run number) = record { images = refl; tracked = refl }
-executing c (Kind.Wait seconds) = record { images = refl; tracked = refl }
-executing c Kind.Stop = record { images = refl; tracked = refl }
-executing c Kind.Clear = record { images = refl; tracked = refl }
+executing c k =
+    record {
+      images = sorts.leaves-count sorts.images sorts.images-lawful c k;
+      tracked = sorts.leaves-count sorts.tracking sorts.tracking-lawful c k;
+    }
 
 handing : (c : Camera) (k : Kind) → SameCounts (handedTo c k) c
 handing c k = go (dark (c .power) k)

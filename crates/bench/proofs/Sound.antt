@@ -166,6 +166,13 @@ read-accepted b s zero =
     let parts = no-row (readCode s) (behindCode b (said s)) (sym (read-then b s) ∙ zero) in
     accepted-of b (said s) (read-allowed s (parts .0)) (parts .1)
 
+-- The same of carrying out on a sound bench.
+pub command-accepted : (b : Bench) → GoodBench b → (c : Command) → carryCode b c ≡ 0 → Accepted b c
+command-accepted b good c zero = judge-accepted b c (judge-then b c ∙ sym (carry-code b c (good .sound)) ∙ zero)
+
+pub bytes-accepted : (b : Bench) → GoodBench b → (s : List ℕ) → carryBytesCode b s ≡ 0 → Accepted b (said s)
+bytes-accepted b good s zero = read-accepted b s (sym (carry-bytes-code b s (good .sound)) ∙ zero)
+
 -- It keeps a bench sound.
 camera-after : (b : Bench) → GoodCamera (b .camera) → (c : Command) → judgeCode c ≡ 0 → (flag : Bool) → c .flag ≡ flag
     → GoodCamera (effectOf b c .camera)
@@ -199,12 +206,12 @@ by-code P parts b c code passes stays takes = go (eqb code 0) refl
 pub by-command : (P : Bench → Type 0) (b : Bench) → GoodBench b → (c : Command)
     → P b → (Takes b (carryCode b c) c → P (effectOf b c)) → P (carryOut b c .bench)
 unfolding carryOut
-by-command P b good c = by-code P (partsOf (c .kind)) b c (carryCode b c) (λ zero. judge-accepted b c (judge-then b c ∙ sym (carry-code b c (good .sound)) ∙ zero))
+by-command P b good c = by-code P (partsOf (c .kind)) b c (carryCode b c) (command-accepted b good c)
 
 pub by-bytes : (P : Bench → Type 0) (b : Bench) → GoodBench b → (s : List ℕ)
     → P b → (Takes b (carryBytesCode b s) (said s) → P (effectOf b (said s))) → P (carryOutBytes b s .bench)
 unfolding carryOutBytes
-by-bytes P b good s = by-code P (saidParts s) b (said s) (carryBytesCode b s) (λ zero. read-accepted b s (sym (carry-bytes-code b s (good .sound)) ∙ zero))
+by-bytes P b good s = by-code P (saidParts s) b (said s) (carryBytesCode b s) (bytes-accepted b good s)
 
 -- The same of a command as a run takes it.
 pub by-taken : (P : Bench → Type 0) (b : Bench) (s : List ℕ)

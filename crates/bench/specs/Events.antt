@@ -1,9 +1,11 @@
--- What can happen to a bench, one thing after another: commands, decoded or from bytes, seconds, runs of two lists, and runs of a typed list.
+-- What can happen to a bench, one thing after another: commands, decoded or from bytes, seconds, runs of two lists, and runs of a typed list; and which
+-- commands are accepted, and which take effect, as it happens.
 use Prim.Native.Nat.{ℕ, zero, suc}
 use mathlib.Core.Path.{_≡_}
 use mathlib.Core.List.{List, [], _∷_, _++_}
-use mathlib.Core.Bool.{Bool, false, not, _&&_, _||_}
+use mathlib.Core.Bool.{Bool, false, cond, not, _&&_, _||_}
 use lib.Dec.{eqb}
+use Rattle.wire.specs.declared.kinds.Kind.{Kind}
 use Rattle.wire.specs.declared.kinds.Command.{Command}
 use Rattle.wire.specs.Read.{said}
 use Rattle.walk.specs.Walk.{rests}
@@ -75,3 +77,26 @@ accepts test b (typed kit text room) = eqb (typedFound b kit text room .told .co
 abbrev pub acceptsAny : (Role → Bool) → Bench → List Event → Bool
 acceptsAny test b [] = false
 acceptsAny test b (e ∷ es) = accepts test b e || acceptsAny test (afterOne b e) es
+
+-- 02, Q-8: a command "has taken effect" once it was executed with code 0 ..
+abbrev pub executedAs : ℕ → Command → List Kind
+executedAs code c = cond (eqb code 0 && not (c .flag)) (c .kind ∷ []) []
+
+-- (so of the commands of a run, in turn)
+abbrev pub executedInTurn : Bench → List (List ℕ) → List Kind
+executedInTurn b [] = []
+executedInTurn b (r ∷ rs) = executedAs (taken b r .told .code) (said r) ++ executedInTurn (taken b r .bench) rs
+
+-- .. or was handed over by a running macro with code 0.
+abbrev pub handedWithZero : List Kind → List ℕ → List Kind
+handedWithZero [] codes = []
+handedWithZero (k ∷ ks) [] = []
+handedWithZero (k ∷ ks) (code ∷ codes) = cond (eqb code 0) (k ∷ handedWithZero ks codes) (handedWithZero ks codes)
+
+-- The commands that take effect in an event, in order.
+abbrev pub inEffect : Bench → Event → List Kind
+inEffect b (command c) = executedAs (carryCode b c) c
+inEffect b (bytes s) = executedAs (carryBytesCode b s) (said s)
+inEffect b second = handedWithZero (secondAt b .handed) (secondAt b .codes)
+inEffect b (run kit pupil room) = cond (eqb (runCode b kit pupil room) 0) (executedInTurn b (rests kit ++ rests pupil)) []
+inEffect b (typed kit text room) = cond (eqb (typedFound b kit text room .told .code) 0) (executedInTurn b (rests kit ++ rests (bytesIn text))) []

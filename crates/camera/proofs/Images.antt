@@ -1,19 +1,26 @@
--- What a series of images does: in which seconds its images come, that a time of 65535 never runs out, and that a series keeps the rules of a sound state.
-use Prim.Native.Nat.{ℕ, zero, suc, _+_, _*_, _-_, _%_, _≤_, _<_}
-use mathlib.Core.Path.{_≡_, refl, sym, ap, _∙_}
+-- What a series of images does: that a time of 65535 never runs out, how many pictures come, and when, and that a series keeps the rules of a sound state.
+use Prim.Native.Nat.{ℕ, zero, suc, _+_, _*_, _-_, _/_, _%_, _≤_, _<_, min}
+use mathlib.Core.Path.{_≡_, refl, sym, ap, ap₂, _∙_}
+use mathlib.Core.Logic.{_⊎_, inl, inr}
 use mathlib.Core.Bool.{Bool, true, false, cond, _&&_, _||_}
 use native.Mathlib.Omega.{arith}
-use native.Mathlib.Nat.{add-zero, add-suc, zero-mul, suc-mul}
+use native.Mathlib.Nat.{zero-mul, suc-mul, add-mul, div-add-mod', mod-lt, lt-of-mul-lt-mul-right, le-antisymm, eq-or-lt-of-le}
 use lib.Dec.{leb, eqb}
 use borrow.Author.Tests.{leb-true, ne-eqb, eqb-true, eqb-false, le-leb}
 use Rattle.words.proofs.Tests.{both}
 use Rattle.camera.specs.declared.Series.{Series}
 use Rattle.camera.specs.Series.{seriesWith, startedOf, countedOf, fallenOf, timeAfter, secondOf, nextHolds}
+use Rattle.camera.specs.Pictures.{countedSeconds, roundedUp, picturesOf, timeLeft, seriesAt}
 
 -- A series after n seconds.
 unfoldable pub seriesAfter : ℕ → Series → Series
 seriesAfter zero s = s
 seriesAfter (suc n) s = secondOf (seriesAfter n s)
+
+pub after-first : (n : ℕ) (s : Series) → seriesAfter n (secondOf s) ≡ seriesAfter (suc n) s
+unfolding seriesAfter
+after-first zero s = refl
+after-first (suc n) s = ap secondOf (after-first n s)
 
 -- The two ways of a series with time left: an image is counted, or "next" falls.
 abbrev counted : Series → Series
@@ -34,10 +41,9 @@ unfolding secondOf
 waiting time interval next count h more = rw (ne-eqb time 0 (λ e. omega arith), ne-eqb (next - 1) 0 (λ e. omega arith))
 
 -- One second of a series that has none.
-pub ended : (s : Series) (n : ℕ) → s .time ≡ 0 → seriesAfter n s ≡ s
-unfolding seriesAfter secondOf
-ended s zero e = refl
-ended s (suc n) e = rw (ended s n e, e)
+none-left : (s : Series) → s .time ≡ 0 → secondOf s ≡ s
+unfolding secondOf
+none-left s e = rw e
 
 -- "time falls by 1 unless it is 65535"; a time of 0 has nowhere to fall.
 pub time-falls : (s : Series) → secondOf s .time ≡ timeAfter (s .time)
@@ -50,15 +56,79 @@ time-falls s = go (eqb (s .time) 0) (eqb (s .next - 1) 0) refl
     go false true e = refl
     go false false e = refl
 
+-- A count has 16 bits, and stays so.
+pub count-held : (s : Series) → s .count < 65536 → secondOf s .count < 65536
+unfolding secondOf
+count-held s held = go (eqb (s .time) 0) (eqb (s .next - 1) 0)
+  where
+    go : (none one : Bool) → cond none s (fallenOf (cond one (counted s) (uncounted s))) .count < 65536
+    go true one = held
+    go false true = omega arith
+    go false false = held
+
 -- "Letting a time of 65535 count down": it stays, for any number of seconds.
 pub for-ever : (s : Series) (n : ℕ) → s .time ≡ 65535 → seriesAfter n s .time ≡ 65535
 unfolding seriesAfter
 for-ever s zero e = e
 for-ever s (suc n) e = time-falls (seriesAfter n s) ∙ rw (for-ever s n e)
 
--- What is left of a series' time after n seconds.
-abbrev pub timeLeft : ℕ → ℕ → ℕ
-timeLeft time n = cond (eqb time 65535) 65535 (time - n)
+-- # How many pictures (02, Q-8)
+
+-- Rounding up is meant: so many intervals cover the seconds, and one fewer would not.
+module _ (n interval : ℕ) (some : 1 ≤ interval) where
+  rounded : roundedUp n interval ≡ cond (eqb (n % interval) 0) (n / interval) (n / interval + 1)
+  rounded = rw (ne-eqb interval 0 (λ e. omega arith))
+
+  pub covers : (n ≤ roundedUp n interval * interval) × (roundedUp n interval * interval < n + interval)
+  covers = rw rounded (go (eqb (n % interval) 0) refl)
+    where
+      whole : n / interval * interval + n % interval ≡ n
+      whole = div-add-mod' n interval
+
+      rest : n % interval < interval
+      rest = mod-lt n some
+
+      more : (n / interval + 1) * interval ≡ n / interval * interval + interval
+      more = add-mul (n / interval) 1 interval ∙ omega arith
+
+      go : (t : Bool) → eqb (n % interval) 0 ≡ t
+          → (n ≤ cond t (n / interval) (n / interval + 1) * interval) × (cond t (n / interval) (n / interval + 1) * interval < n + interval)
+      go true e =
+          let none : n % interval ≡ 0 = eqb-true (n % interval) 0 e in
+          (omega (arith, whole), omega (arith, whole))
+      go false e =
+          let some-left : n % interval ≡ 0 → ⊥ = eqb-false (n % interval) 0 e in
+          (omega (arith, whole, rest, more), omega (arith, whole, rest, more))
+
+  -- No other number does.
+  pub rounds-to : (p : ℕ) → n ≤ p * interval → p * interval < n + interval → roundedUp n interval ≡ p
+  rounds-to p enough least = le-antisymm (below (roundedUp n interval) p (covers .1) enough) (below p (roundedUp n interval) least (covers .0))
+    where
+      below : (a b : ℕ) → a * interval < n + interval → n ≤ b * interval → a ≤ b
+      below a b few many =
+          let more : suc b * interval ≡ b * interval + interval = suc-mul b interval in
+          let less : a < suc b = lt-of-mul-lt-mul-right interval (omega (arith, more)) in
+          omega arith
+
+-- So pictures come in seconds 1, I + 1, 2 I + 1 ..: by second q I + r + 1 there are q + 1, as long as r is below I.
+pub comes : (interval q r : ℕ) → r < interval → roundedUp (suc (q * interval + r)) interval ≡ suc q
+comes interval q r within =
+    let more : suc q * interval ≡ q * interval + interval = suc-mul q interval in
+    rounds-to (suc (q * interval + r)) interval (omega arith) (suc q) (omega (arith, more)) (omega (arith, more))
+
+-- And T divided by I, rounded up, are all that come, unless T is 65535.
+pub in-all : (time interval k : ℕ) → time < 65535 → time ≤ k → picturesOf time interval k ≡ roundedUp time interval
+in-all time interval k finite over =
+    let all : min k time ≡ time = omega arith in
+    rw (ne-eqb time 65535 (λ e. omega arith), all)
+
+-- What is left of the time falls with each second.
+left-whole : (time : ℕ) → timeLeft time 0 ≡ time
+left-whole time = go (eqb time 65535) refl
+  where
+    go : (b : Bool) → eqb time 65535 ≡ b → cond b 65535 (time - 0) ≡ time
+    go true e = sym (eqb-true time 65535 e)
+    go false e = omega arith
 
 left-falls : (time n : ℕ) → time ≤ 65535 → timeAfter (timeLeft time n) ≡ timeLeft time (suc n)
 left-falls time n small = go (eqb time 65535) refl
@@ -69,81 +139,100 @@ left-falls time n small = go (eqb time 65535) refl
         let fewer : time - n - 1 ≡ time - suc n = omega arith in
         rw (ne-eqb (time - n) 65535 (λ f. eqb-false time 65535 e (omega arith)), fewer)
 
-left-whole : (time : ℕ) → timeLeft time 0 ≡ time
-left-whole time = go (eqb time 65535) refl
+-- While time is left every second counts; where none is, no more do, and none is left.
+left-counts : (time n : ℕ) → 0 < timeLeft time n → (countedSeconds time n ≡ n) × (countedSeconds time (suc n) ≡ suc n)
+left-counts time n = go (eqb time 65535)
   where
-    go : (b : Bool) → eqb time 65535 ≡ b → cond b 65535 (time - 0) ≡ time
-    go true e = sym (eqb-true time 65535 e)
-    go false e = omega arith
+    go : (b : Bool) → 0 < cond b 65535 (time - n) → (cond b n (min n time) ≡ n) × (cond b (suc n) (min (suc n) time) ≡ suc n)
+    go true more = (refl, refl)
+    go false more = (omega arith, omega arith)
 
-left-earlier : (time n m : ℕ) → n ≤ m → 0 < timeLeft time m → 0 < timeLeft time n
-left-earlier time n m h = go (eqb time 65535)
+over-counts : (time n : ℕ) → timeLeft time n ≡ 0 → (timeLeft time (suc n) ≡ 0) × (countedSeconds time (suc n) ≡ countedSeconds time n)
+over-counts time n = go (eqb time 65535)
   where
-    go : (b : Bool) → 0 < cond b 65535 (time - m) → 0 < cond b 65535 (time - n)
-    go true more = more
-    go false more = omega arith
+    go : (b : Bool) → cond b 65535 (time - n) ≡ 0 → (cond b 65535 (time - suc n) ≡ 0) × (cond b (suc n) (min (suc n) time) ≡ cond b n (min n time))
+    go true none = absurd (omega arith)
+    go false none = (omega arith, omega arith)
 
--- In which seconds the images of a series come.
-module _ (s : Series) (time interval : ℕ) (small : time ≤ 65535) where
-  -- After n seconds q + 1 images were counted, the last of them r seconds ago.
-  abbrev pub Counted : ℕ → ℕ → ℕ → Type 0
-  Counted n q r =
-      seriesAfter n (startedOf s time interval) ≡ seriesWith (timeLeft time n) interval (interval - r) ((s .count + q + 1) % 65536)
+-- A series after so many seconds, said by the numbers of pictures and of seconds that count.
+abbrev state : Series → ℕ → ℕ → ℕ → ℕ → Series
+state s interval time p n = seriesWith time interval (p * interval + 1 - n) ((s .count + p) % 65536)
 
-  waits : (n q r : ℕ) → suc r < interval → 0 < timeLeft time n → Counted n q r → Counted (suc n) q (suc r)
+module _ (s : Series) (time interval : ℕ) (small : time ≤ 65535) (some : 1 ≤ interval) where
+  -- One more second that counts: a picture comes where those before it lasted just till now.
+  module _ (left n : ℕ) (more : 0 < left) where
+    abbrev p : ℕ
+    p = roundedUp n interval
+
+    enough : n ≤ p * interval
+    enough = covers n interval some .0
+
+    few : p * interval < n + interval
+    few = covers n interval some .1
+
+    one-more : suc p * interval ≡ p * interval + interval
+    one-more = suc-mul p interval
+
+    counts : p * interval ≡ n → secondOf (state s interval left p n) ≡ state s interval (timeAfter left) (roundedUp (suc n) interval) (suc n)
+    counts due =
+        let now : p * interval + 1 - n ≡ 1 = omega arith in
+        let then : roundedUp (suc n) interval ≡ suc p = rounds-to (suc n) interval some (suc p) (omega (arith, one-more)) (omega (arith, one-more)) in
+        let later : suc p * interval + 1 - suc n ≡ interval = omega (arith, one-more) in
+        let wraps : ((s .count + p) % 65536 + 1) % 65536 ≡ (s .count + suc p) % 65536 = omega arith in
+        rw (now, then, later, counting left interval ((s .count + p) % 65536) more, wraps)
+
+    waits : n < p * interval → secondOf (state s interval left p n) ≡ state s interval (timeAfter left) (roundedUp (suc n) interval) (suc n)
+    waits later =
+        let same : roundedUp (suc n) interval ≡ p = rounds-to (suc n) interval some p (omega arith) (omega (arith, few)) in
+        let fewer : p * interval + 1 - n - 1 ≡ p * interval + 1 - suc n = omega arith in
+        rw (same, waiting left interval (p * interval + 1 - n) ((s .count + p) % 65536) more (omega arith), fewer)
+
+    pub goes-on : secondOf (state s interval left p n) ≡ state s interval (timeAfter left) (roundedUp (suc n) interval) (suc n)
+    goes-on = go (eq-or-lt-of-le enough)
+      where
+        go : (n ≡ p * interval) ⊎ (n < p * interval) → secondOf (state s interval left p n) ≡ state s interval (timeAfter left) (roundedUp (suc n) interval) (suc n)
+        go (inl due) = counts (sym due)
+        go (inr later) = waits later
+
+  starts : s .count < 65536 → startedOf s time interval ≡ seriesAt s time interval 0
+  starts held =
+      let none : countedSeconds time 0 ≡ 0 = none-yet (eqb time 65535) in
+      let first : roundedUp 0 interval ≡ 0 = rounds-to 0 interval some 0 (omega arith) (omega (arith, zero-mul interval)) in
+      let next : 0 * interval + 1 - 0 ≡ 1 = omega (arith, zero-mul interval) in
+      let count : (s .count + 0) % 65536 ≡ s .count = omega arith in
+      sym
+      (ap₂ (λ left n. state s interval left (roundedUp n interval) n) (left-whole time) none
+      ∙ ap (λ p. state s interval time p 0) first
+      ∙ ap₂ (λ n c. seriesWith time interval n c) next count)
+    where
+      none-yet : (b : Bool) → cond b 0 (min 0 time) ≡ 0
+      none-yet true = refl
+      none-yet false = omega arith
+
+  -- One second of the series.
+  one-second : (k : ℕ) → secondOf (seriesAt s time interval k) ≡ seriesAt s time interval (suc k)
+  one-second k = go (eqb (timeLeft time k) 0) refl
+    where
+      go : (t : Bool) → eqb (timeLeft time k) 0 ≡ t → secondOf (seriesAt s time interval k) ≡ seriesAt s time interval (suc k)
+      go true e =
+          let none : timeLeft time k ≡ 0 = eqb-true (timeLeft time k) 0 e in
+          let over = over-counts time k none in
+          none-left (seriesAt s time interval k) none
+          ∙ ap₂ (λ left n. state s interval left (roundedUp n interval) n) (none ∙ sym (over .0)) (sym (over .1))
+      go false e =
+          let some-left : timeLeft time k ≡ 0 → ⊥ = eqb-false (timeLeft time k) 0 e in
+          let more : 0 < timeLeft time k = omega arith in
+          let is = left-counts time k more in
+          ap (λ n. secondOf (state s interval (timeLeft time k) (roundedUp n interval) n)) (is .0)
+          ∙ goes-on (timeLeft time k) k more
+          ∙ ap₂ (λ left n. state s interval left (roundedUp n interval) n) (left-falls time k small) (sym (is .1))
+
+  -- "k seconds add the smaller of k and T (k alone where T is 65535), divided by I and rounded up, to the count, modulo 65536": the one fact about images
+  -- and tracking images, an equation of the whole series. (A count of 16 bits, as every program's is.)
+  pub pictures : s .count < 65536 → (k : ℕ) → seriesAfter k (startedOf s time interval) ≡ seriesAt s time interval k
   unfolding seriesAfter
-  waits n q r h more e =
-      let fewer : interval - r - 1 ≡ interval - suc r = omega arith in
-      rw (e, waiting (timeLeft time n) interval (interval - r) ((s .count + q + 1) % 65536) more (omega arith), left-falls time n small, fewer)
-
-  counts : (n q r : ℕ) → suc r ≡ interval → 0 < timeLeft time n → Counted n q r → Counted (suc n) (suc q) 0
-  unfolding seriesAfter
-  counts n q r h more e =
-      let one : interval - r ≡ 1 = omega arith in
-      let all : interval - 0 ≡ interval = omega arith in
-      let wraps : ((s .count + q + 1) % 65536 + 1) % 65536 ≡ (s .count + suc q + 1) % 65536 = omega arith in
-      rw (e, one, counting (timeLeft time n) interval ((s .count + q + 1) % 65536) more, left-falls time n small, wraps, all)
-
-  -- The first image, those behind it, and the seconds between two.
-  along : (n q r : ℕ) → r < interval → 0 < timeLeft time (n + r) → Counted (suc n) q 0 → Counted (suc (n + r)) q r
-  along n q zero h more e = rw (add-zero n) e
-  along n q (suc r) h more e =
-      let left : 0 < timeLeft time (suc (n + r)) = rw (add-suc n r) at more in
-      rw (add-suc n r)
-      (waits (suc (n + r)) q r h left (along n q r (omega arith) (left-earlier time (n + r) (suc (n + r)) (omega arith) left) e))
-
-  starts : (q : ℕ) → 0 < interval → 0 < timeLeft time (q * interval) → Counted (suc (q * interval)) q 0
-  unfolding seriesAfter
-  starts zero h more =
-      let left : 0 < time = rw (zero-mul, left-whole time) at more in
-      let fallen : timeAfter time ≡ timeLeft time 1 = rw (left-whole time) at (left-falls time 0 small) in
-      let none : s .count + 0 + 1 ≡ s .count + 1 = omega arith in
-      let all : interval - 0 ≡ interval = omega arith in
-      rw (zero-mul, counting time interval (s .count) left, fallen, none, all)
-  starts (suc q) h more =
-      let r : ℕ = interval - 1 in
-      let whole : suc (q * interval + r) ≡ suc q * interval = omega (arith, suc-mul q interval) in
-      let left : 0 < timeLeft time (suc (q * interval + r)) = rw (← whole) at more in
-      rw (← whole)
-      (counts (suc (q * interval + r)) q r (omega arith) left
-      (along (q * interval) q r (omega arith) (left-earlier time (q * interval + r) (suc (q * interval + r)) (omega arith) left)
-      (starts q h (left-earlier time (q * interval) (suc (q * interval + r)) (omega arith) left))))
-
-  -- A series with time T and interval I counts its images in seconds 1, I + 1, 2 I + 1 ..: while time is left, q + 1 of them by second q I + r + 1.
-  pub images : (q r : ℕ) → r < interval → 0 < timeLeft time (q * interval + r) → Counted (suc (q * interval + r)) q r
-  images q r h more =
-      along (q * interval) q r h more (starts q (omega arith) (left-earlier time (q * interval) (q * interval + r) (omega arith) more))
-
-  -- Where T is q I + r + 1 seconds and not for ever, q + 1 images are all that come.
-  pub in-all : (n q r : ℕ) → r < interval → time ≡ suc (q * interval + r) → time < 65535
-      → seriesAfter n (seriesAfter time (startedOf s time interval)) .count ≡ (s .count + q + 1) % 65536
-  in-all n q r h whole finite =
-      let falls : eqb time 65535 ≡ false = ne-eqb time 65535 (λ e. omega arith) in
-      let more : 0 < timeLeft time (q * interval + r) = rw falls (omega arith) in
-      let last : Counted time q r = rw (← whole) at (images q r h more) in
-      let none : timeLeft time time ≡ 0 = rw falls (omega arith) in
-      ap (λ (s : Series). s .count) (ended (seriesAfter time (startedOf s time interval)) n (ap (λ (s : Series). s .time) last ∙ none))
-      ∙ ap (λ (s : Series). s .count) last
+  pictures held zero = starts held
+  pictures held (suc k) = ap secondOf (pictures held k) ∙ one-second k
 
 -- The rules that a sound state has for a series: an interval of 1 at least, and `next` from 1 to the interval wherever a time is above 0. A series that
 -- is started with such an interval obeys them, and every second keeps them.

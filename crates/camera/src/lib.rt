@@ -1,10 +1,11 @@
-// The camera's fields and its two series of images: what an executed command sets, which one asks for pictures in the dark, and what a second does.
-// Macro commands are not the camera's: executing one leaves it as it is.
+// The camera's fields and its two series of images: what an executed command sets, which one asks for pictures in the dark, what a second does, and
+// how many pictures a series takes. Macro commands are not the camera's: executing one leaves it as it is.
 ghost use mathlib.Core.Path.{_≡_};
 ghost use mathlib.Core.Bool.{not, _&&_};
 ghost use lib.Dec.{ltb};
 ghost use Rattle.camera.specs.Series.{freshSeries, startedOf, timeAfter, secondOf, nextHolds};
 ghost use Rattle.camera.specs.Camera.{freshCamera, withSeries, withRegion, withGoal, withModes, withFlushes, executedOf, cameraSecond, dark};
+ghost use Rattle.camera.specs.Pictures.{countedSeconds, roundedUp, picturesOf};
 use wire::Kind;
 
 // A series of images: the seconds that it still runs, the interval, the seconds to the next image, the images so far.
@@ -250,4 +251,39 @@ pub fn is_dark(power: bool, kind: Kind) -> bool
         Kind::Stop => false,
         Kind::Clear => false,
     }
+}
+
+// Of so many seconds those in which a series of this time counts.
+fn counted_seconds(time: u16, seconds: u32) -> u32
+    ensures { λ r. ⌜ r ≡ countedSeconds time seconds ⌝ }
+{
+    if time == FOR_EVER {
+        return seconds;
+    }
+    let all = time as u32;
+    if seconds <= all {
+        return seconds;
+    }
+    all
+}
+
+// Seconds divided by an interval, rounded up; 0 where there is no interval.
+fn rounded_up(seconds: u32, interval: u32) -> u32
+    ensures { λ r. ⌜ r ≡ roundedUp seconds interval ⌝ }
+{
+    if interval == 0 {
+        return 0;
+    }
+    let whole = seconds / interval;
+    if seconds % interval == 0 {
+        return whole;
+    }
+    whole + 1
+}
+
+// How many pictures a series takes in so many seconds, from the moment when it was started with this time and interval.
+pub fn pictures(time: u16, interval: u16, seconds: u32) -> u32
+    ensures { λ r. ⌜ r ≡ picturesOf time interval seconds ⌝ }
+{
+    rounded_up(counted_seconds(time, seconds), interval as u32)
 }

@@ -1,5 +1,6 @@
 // Decoded commands: a flag, an opcode, and two arguments of 32 bits, each cut to its field; a goal is the single with these bits.
-// `judge` tries codes 8, 9 and 10; `write`, whose line has the size of the room in front, 8, then 9 or 10, then 24; `step` carries one out.
+// `judge` tries codes 8, 9 and 10; `write`, whose line has the size of the room in front, 8, then 9 or 10, then 24; `step` carries one out. `pictures` has
+// two arguments of 16 bits, those of IMAGE or TRACK, and seconds.
 use super::lines;
 use super::rooms;
 use super::say;
@@ -35,4 +36,14 @@ pub fn judge(s: &[u8]) {
 pub fn write(s: &[u8]) {
     let size = words::byte_at(s, 0) as usize;
     rooms::put_command(command(lines::part(s, 1, s.len())), size);
+}
+
+// `pictures`: how many come in so many seconds.
+pub fn pictures(s: &[u8]) {
+    let count = camera::pictures(
+        words::half_at(s, 0),
+        words::half_at(s, 2),
+        words::word_at(s, 4),
+    );
+    say::number(count as u64);
 }

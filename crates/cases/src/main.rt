@@ -21,7 +21,7 @@ mod texts;
 use bench::Bench;
 
 // The longest input, and the most bytes of one line.
-const TEXT: usize = 262144;
+const TEXT: usize = 524288;
 
 const BYTES: usize = 40000;
 
@@ -69,6 +69,8 @@ fn single(line: &[u8], s: &[u8]) {
         decoded::judge(s);
     } else if lines::begins(line, b"write ") {
         decoded::write(s);
+    } else if lines::begins(line, b"pictures ") {
+        decoded::pictures(s);
     } else {
         translated(line, s);
     }

@@ -12,6 +12,7 @@ pub mod list;
 pub mod macros;
 pub mod numbers;
 pub mod outline;
+pub mod pictures;
 pub mod programs;
 pub mod replay;
 pub mod run;

@@ -3,13 +3,16 @@
 
 use std::collections::{BTreeMap, BTreeSet};
 
+use reference::bench::FOREVER;
 use reference::comparison::items::{command, fresh, second, status, Item};
 use reference::comparison::rng::Rng;
 use reference::comparison::shrink::shrunk;
+use reference::comparison::sums::{input, sums, Sum, MOST_FOR_EVER};
 use reference::comparison::tally::{first_difference, grouped, Tally};
 use reference::comparison::{fixed, random};
 use reference::macros::MACROS;
 use reference::outline::Outline;
+use reference::pictures::answers;
 use reference::replay::{transcript, Replay, Script, LONGEST_SCRIPT};
 
 #[test]
@@ -281,6 +284,72 @@ fn one_fixed_script_is_too_long_and_twenty_two_are_bad() {
     };
     assert_eq!(ending("too long\n"), 1);
     assert_eq!(ending("bad script\n"), 22);
+}
+
+/// The most bytes that the cases program is sure to read.
+const LONGEST_CASES: usize = 500_000;
+
+#[test]
+fn sums_are_whole_and_the_same_again() {
+    let all = sums(&mut Rng::new(7), 400);
+    assert_eq!(all, sums(&mut Rng::new(7), 400));
+    let lines = input(&all);
+    assert!(lines.len() < LONGEST_CASES);
+    let answers = answers(&lines);
+    assert_eq!(answers.lines().count(), all.len());
+    for (number, line) in (1..).zip(answers.lines()) {
+        assert!(line.starts_with(&format!("pictures {number}: ")), "{line}");
+    }
+    let for_ever = all.iter().filter(|sum| sum.time == FOREVER);
+    assert!(for_ever.map(|sum| sum.seconds).max() <= Some(MOST_FOR_EVER));
+}
+
+#[test]
+fn fixed_sums_have_the_example_every_end_and_intervals_of_0() {
+    let fixed = sums(&mut Rng::new(7), 0);
+    let sent = |time, interval, seconds| {
+        fixed.contains(&Sum {
+            time,
+            interval,
+            seconds,
+        })
+    };
+    assert!((0..7).all(|seconds| sent(5, 2, seconds)));
+    for time in [0, 1, 65534, 65535] {
+        let end = u32::from(time);
+        for interval in [0, 1, 2, 65535] {
+            for seconds in [0, 1, end, end + 1, 70_000] {
+                assert!(sent(time, interval, seconds), "{time} {interval} {seconds}");
+            }
+            assert_eq!(sent(time, interval, u32::MAX), time != FOREVER);
+        }
+    }
+}
+
+#[test]
+fn random_sums_lie_mostly_about_an_end() {
+    let fixed = sums(&mut Rng::new(7), 0).len();
+    let random = &sums(&mut Rng::new(7), 400)[fixed..];
+    let often = |what: &str, least: usize, holds: &dyn Fn(&Sum) -> bool| {
+        let times = random.iter().filter(|sum| holds(sum)).count();
+        assert!(times > least, "{what} {times}");
+    };
+    often("about the time", 150, &|sum| {
+        u32::from(sum.time).abs_diff(sum.seconds) <= 2
+    });
+    often("about a multiple", 150, &|sum| {
+        let interval = u64::from(sum.interval);
+        interval > 4 && (u64::from(sum.seconds) + 2) % interval <= 4
+    });
+    often("seconds end it", 50, &|sum| {
+        sum.seconds > u32::from(sum.interval) && sum.seconds < u32::from(sum.time)
+    });
+    often("time ends it", 80, &|sum| {
+        sum.time > sum.interval && u32::from(sum.time) < sum.seconds
+    });
+    often("for ever", 10, &|sum| sum.time == FOREVER);
+    often("an interval of 0", 10, &|sum| sum.interval == 0);
+    often("many seconds", 10, &|sum| sum.seconds > MOST_FOR_EVER);
 }
 
 #[test]

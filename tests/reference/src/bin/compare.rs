@@ -1,5 +1,5 @@
-//! The random comparison of a replay program, a list program and the programs
-//! for typed lists with the reference. Exits with 0 when nothing differs and
+//! The random comparison of a replay program, a list program, the programs for
+//! typed lists and a cases program with the reference. Exits with 0 when nothing differs and
 //! every code occurred, with 1 when not, and with 2 when it was not told what to
 //! compare.
 
@@ -12,8 +12,9 @@ use reference::comparison::program::Program;
 use reference::comparison::rng::Rng;
 use reference::comparison::shrink::shrunk;
 use reference::comparison::tally::{first_difference, grouped, Tally};
-use reference::comparison::{fixed, fixed_dark, fixed_range, inputs, random};
+use reference::comparison::{fixed, fixed_dark, fixed_range, inputs, random, sums};
 use reference::list::listing;
+use reference::pictures::answers;
 use reference::programs::{assembler, lister, typed};
 use reference::replay::{hex, transcript, Replay, Script};
 use reference::run::{commands_of, LONGEST_LIST};
@@ -22,19 +23,22 @@ use reference::run::{commands_of, LONGEST_LIST};
 struct Differs;
 
 /// How much was sent and compared: scripts to the replay program and the lines
-/// of its answers, lists to the list program, and inputs to the others.
+/// of its answers, lists to the list program, inputs to the programs for typed
+/// lists, and sums to the cases program.
 #[derive(Default)]
 struct Sent {
     scripts: u64,
     answers: u64,
     lists: usize,
     inputs: usize,
+    sums: usize,
 }
 
 /// Streams of random numbers for whole inputs lie far from those for scripts.
 const LIST_STREAM: u64 = 1 << 32;
 const TEXT_STREAM: u64 = 2 << 32;
 const RAW_STREAM: u64 = 3 << 32;
+const SUM_STREAM: u64 = 4 << 32;
 
 /// A program that answers a whole input, and what is expected of it.
 struct Subject<'a> {
@@ -66,10 +70,14 @@ fn main() -> ExitCode {
         answers,
         lists,
         inputs,
+        sums,
     } = sent;
+    let sums = grouped(sums as u64);
     print!("{}", tally.table());
     let seconds = begun.elapsed().as_secs_f64();
-    println!("{scripts} scripts, {lists} lists and {inputs} inputs took {seconds:.1} s");
+    println!(
+        "{scripts} scripts, {lists} lists, {inputs} inputs and {sums} sums took {seconds:.1} s"
+    );
     let missing = tally.missing();
     if !missing.is_empty() {
         println!("codes that never occurred: {missing:?}");
@@ -77,7 +85,8 @@ fn main() -> ExitCode {
     }
     let (answers, seed) = (grouped(answers), options.seed);
     println!(
-        "compared {answers} answers, {lists} lists, {inputs} inputs, seed {seed}: no difference"
+        "compared {answers} answers, {lists} lists, {inputs} inputs, {sums} sums, \
+         seed {seed}: no difference"
     );
     ExitCode::SUCCESS
 }
@@ -86,6 +95,7 @@ fn compare_all(options: &Options, tally: &mut Tally) -> Result<Sent, Differs> {
     let mut sent = compare_scripts(options, tally)?;
     sent.lists = compare_lists(options)?;
     sent.inputs = compare_typed_lists(options)?;
+    sent.sums = compare_sums(options)?;
     Ok(sent)
 }
 
@@ -166,6 +176,19 @@ fn compare_typed_lists(options: &Options) -> Result<usize, Differs> {
         pieces: commands,
     };
     Ok(compared + compare_inputs(&subject, &raw_lists)?)
+}
+
+/// All sums in one input, a line for each.
+fn compare_sums(options: &Options) -> Result<usize, Differs> {
+    let sums = sums::sums(&mut Rng::stream(options.seed, SUM_STREAM), options.sums);
+    let subject = Subject {
+        input: "list of sums",
+        program: &options.cases,
+        expected: answers,
+        pieces: lines,
+    };
+    compare_inputs(&subject, &[sums::input(&sums)])?;
+    Ok(sums.len())
 }
 
 fn compare_inputs(subject: &Subject, inputs: &[Vec<u8>]) -> Result<usize, Differs> {

@@ -28,5 +28,6 @@ mod random_range;
 mod random_text;
 pub mod rng;
 pub mod shrink;
+pub mod sums;
 pub mod tally;
 pub mod texts;

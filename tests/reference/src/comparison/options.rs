@@ -4,8 +4,8 @@
 use super::program::Program;
 
 pub const USAGE: &str = "usage: compare --replay \"CMD\" --list \"CMD\" \
-    --typed \"CMD\" --assemble \"CMD\" --lister \"CMD\" \
-    [--seed N] [--lists N] [--inputs N] [--answers N]";
+    --typed \"CMD\" --assemble \"CMD\" --lister \"CMD\" --cases \"CMD\" \
+    [--seed N] [--lists N] [--inputs N] [--sums N] [--answers N]";
 
 pub struct Options {
     pub replay: Program,
@@ -13,11 +13,14 @@ pub struct Options {
     pub typed: Program,
     pub assemble: Program,
     pub lister: Program,
+    pub cases: Program,
     pub seed: u64,
     /// How many random lists are sent, besides those of 0, 4,096 and 4,097 bytes.
     pub lists: usize,
     /// How many random inputs each program for typed lists gets, besides the fixed ones.
     pub inputs: usize,
+    /// How many random sums the cases program is asked for, besides the fixed ones.
+    pub sums: usize,
     /// How many transcript lines are to be compared at least.
     pub answers: u64,
 }
@@ -25,6 +28,7 @@ pub struct Options {
 const DEFAULT_SEED: u64 = 1;
 const DEFAULT_LISTS: usize = 150;
 const DEFAULT_INPUTS: usize = 40;
+const DEFAULT_SUMS: usize = 400;
 const DEFAULT_ANSWERS: u64 = 240_000;
 
 /// The same options while it is not yet known whether all have been given.
@@ -35,9 +39,11 @@ struct Given {
     typed: Option<Program>,
     assemble: Option<Program>,
     lister: Option<Program>,
+    cases: Option<Program>,
     seed: Option<u64>,
     lists: Option<usize>,
     inputs: Option<usize>,
+    sums: Option<usize>,
     answers: Option<u64>,
 }
 
@@ -50,9 +56,11 @@ impl Given {
             "--typed" => self.typed = Program::with_errors(value),
             "--assemble" => self.assemble = Program::with_errors(value),
             "--lister" => self.lister = Program::with_errors(value),
+            "--cases" => self.cases = Program::new(value),
             "--seed" => self.seed = Some(value.parse().ok()?),
             "--lists" => self.lists = Some(value.parse().ok()?),
             "--inputs" => self.inputs = Some(value.parse().ok()?),
+            "--sums" => self.sums = Some(value.parse().ok()?),
             "--answers" => self.answers = Some(value.parse().ok()?),
             _ => return None,
         }
@@ -72,21 +80,24 @@ impl Options {
             typed: given.typed?,
             assemble: given.assemble?,
             lister: given.lister?,
+            cases: given.cases?,
             seed: given.seed.unwrap_or(DEFAULT_SEED),
             lists: given.lists.unwrap_or(DEFAULT_LISTS),
             inputs: given.inputs.unwrap_or(DEFAULT_INPUTS),
+            sums: given.sums.unwrap_or(DEFAULT_SUMS),
             answers: given.answers.unwrap_or(DEFAULT_ANSWERS),
         })
     }
 
     /// Every program that is to be started.
-    pub fn programs(&self) -> [&Program; 5] {
+    pub fn programs(&self) -> [&Program; 6] {
         [
             &self.replay,
             &self.list,
             &self.typed,
             &self.assemble,
             &self.lister,
+            &self.cases,
         ]
     }
 }
