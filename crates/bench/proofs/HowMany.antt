@@ -252,7 +252,7 @@ tracking-counted = how-many tracking tracking-lawful
 
 -- # The sheet's case, and one that wraps
 
--- "5 s, every 2 s: seconds 1, 3, 5", wherever and whenever it is asked for.
+-- "image, 5 s, every 2 s. Images come in seconds 1, 3 and 5.", wherever and whenever it is asked for.
 pub sheet : (b : Bench) → Reached b → (e : Event) → TakesEffect images 5 2 b e
     → let start = afterOne b e in
     (es : List Event) → NoOther images start es → (k : ℕ) → secondsIn es ≡ k → k ≤ 6

@@ -11,13 +11,13 @@ pub mod TypedReport
 pub mod LastNumbers
 pub mod LineShown
 pub mod Slips
-pub mod Sorts
-pub mod InEffect
 pub mod Unique
 pub mod UniqueRun
 pub mod UniqueTyped
 pub mod Rows
 pub mod Camera
+pub mod Sorts
+pub mod InEffect
 pub mod Sound
 pub mod ByTally
 pub mod MacroRun

@@ -122,7 +122,7 @@ in-all time interval k finite over =
     let all : min k time ≡ time = omega arith in
     rw (ne-eqb time 65535 (λ e. omega arith), all)
 
--- What is left of the time falls with each second.
+-- What is left of the time is all of it at first, and falls with each second.
 left-whole : (time : ℕ) → timeLeft time 0 ≡ time
 left-whole time = go (eqb time 65535) refl
   where
@@ -173,7 +173,10 @@ module _ (s : Series) (time interval : ℕ) (small : time ≤ 65535) (some : 1 �
     one-more : suc p * interval ≡ p * interval + interval
     one-more = suc-mul p interval
 
-    counts : p * interval ≡ n → secondOf (state s interval left p n) ≡ state s interval (timeAfter left) (roundedUp (suc n) interval) (suc n)
+    abbrev GoesOn : Type 0
+    GoesOn = secondOf (state s interval left p n) ≡ state s interval (timeAfter left) (roundedUp (suc n) interval) (suc n)
+
+    counts : p * interval ≡ n → GoesOn
     counts due =
         let now : p * interval + 1 - n ≡ 1 = omega arith in
         let then : roundedUp (suc n) interval ≡ suc p = rounds-to (suc n) interval some (suc p) (omega (arith, one-more)) (omega (arith, one-more)) in
@@ -181,16 +184,16 @@ module _ (s : Series) (time interval : ℕ) (small : time ≤ 65535) (some : 1 �
         let wraps : ((s .count + p) % 65536 + 1) % 65536 ≡ (s .count + suc p) % 65536 = omega arith in
         rw (now, then, later, counting left interval ((s .count + p) % 65536) more, wraps)
 
-    waits : n < p * interval → secondOf (state s interval left p n) ≡ state s interval (timeAfter left) (roundedUp (suc n) interval) (suc n)
+    waits : n < p * interval → GoesOn
     waits later =
         let same : roundedUp (suc n) interval ≡ p = rounds-to (suc n) interval some p (omega arith) (omega (arith, few)) in
         let fewer : p * interval + 1 - n - 1 ≡ p * interval + 1 - suc n = omega arith in
         rw (same, waiting left interval (p * interval + 1 - n) ((s .count + p) % 65536) more (omega arith), fewer)
 
-    pub goes-on : secondOf (state s interval left p n) ≡ state s interval (timeAfter left) (roundedUp (suc n) interval) (suc n)
+    goes-on : GoesOn
     goes-on = go (eq-or-lt-of-le enough)
       where
-        go : (n ≡ p * interval) ⊎ (n < p * interval) → secondOf (state s interval left p n) ≡ state s interval (timeAfter left) (roundedUp (suc n) interval) (suc n)
+        go : (n ≡ p * interval) ⊎ (n < p * interval) → GoesOn
         go (inl due) = counts (sym due)
         go (inr later) = waits later
 

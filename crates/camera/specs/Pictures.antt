@@ -22,7 +22,7 @@ picturesOf time interval seconds = roundedUp (countedSeconds time seconds) inter
 abbrev pub timeLeft : ℕ → ℕ → ℕ
 timeLeft time seconds = cond (eqb time 65535) 65535 (time - seconds)
 
--- Picture p + 1 comes in second p I + 1 of those that count, so that far off is the next one.
+-- After p pictures the next one comes in second p I + 1 of those that count: it is so many seconds away.
 abbrev pub nextAfter : ℕ → ℕ → ℕ → ℕ
 nextAfter time interval seconds = picturesOf time interval seconds * interval + 1 - countedSeconds time seconds
 
