@@ -1,11 +1,12 @@
 -- Laws of the bench, in two groups: what a reader wants to know (`Demands` is the file to open first; `Cases` has 01's starred examples, `Dark` what
--- is said of the power, `FreeEntries` of the free macro entries, `HowMany` of the pictures that come, `Report`, `TypedReport` and `LineShown` what a
--- moderator asks of the records), and the laws behind those and behind single functions.
+-- is said of the power, `FreeEntries` of the free macro entries, `HowMany` of the pictures that come, `TwoEvenings` of lists that are run in parts,
+-- `Report`, `TypedReport` and `LineShown` what a moderator asks of the records), and the laws behind those and behind single functions.
 pub mod Demands
 pub mod Cases
 pub mod Dark
 pub mod FreeEntries
 pub mod HowMany
+pub mod TwoEvenings
 pub mod Report
 pub mod TypedReport
 pub mod LastNumbers
@@ -22,6 +23,8 @@ pub mod Sound
 pub mod ByTally
 pub mod MacroRun
 pub mod InTurn
+pub mod Joining
+pub mod EveningCodes
 pub mod Back
 pub mod Outcomes
 pub mod Own

@@ -198,11 +198,11 @@ module _ (b : Bench) (kit pupil room : List ℕ) (accepted : runOf b kit pupil r
   unfolding runOf
   bench-after = rw accepted
 
-  room-is : roomAfter b kit pupil room ≡ written (reportOf b kit pupil) room
+  pub room-is : roomAfter b kit pupil room ≡ written (reportOf b kit pupil) room
   unfolding roomAfter runOf
   room-is = rw accepted
 
-  fits : length (reportOf b kit pupil) ≤ length room
+  pub fits : length (reportOf b kit pupil) ≤ length room
   fits =
       let p = passed b kit pupil room accepted in
       omega (arith, p, report-fits b kit pupil (p .kit-short) (p .pupil-short))

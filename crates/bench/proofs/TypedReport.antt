@@ -100,11 +100,11 @@ module _ (b : Bench) (kit text room : List ℕ) (accepted : typedOf b kit text r
   unfolding typedOf
   bench-after = rw accepted
 
-  room-is : typedRoom b kit text room ≡ written (typedReport b kit text) room
+  pub room-is : typedRoom b kit text room ≡ written (typedReport b kit text) room
   unfolding typedRoom typedOf
   room-is = rw accepted
 
-  fits : length (typedReport b kit text) ≤ length room
+  pub fits : length (typedReport b kit text) ≤ length room
   fits =
       let p = passed b kit text room accepted in
       omega (arith, p, both-fit b kit (lineNumbers text) (bytesIn text) (typed-even text) (p .kit-short) (p .list-short))

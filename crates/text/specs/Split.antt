@@ -20,6 +20,12 @@ unfoldable pub linesOf : List ℕ → List (List ℕ)
 linesOf [] = []
 linesOf (b ∷ s) = cond (eqb b lineFeed) ([] ∷ linesOf s) (onto b (linesOf s))
 
+-- Does a text end in a line feed?
+unfoldable pub endsLine : List ℕ → Bool
+endsLine [] = false
+endsLine (b ∷ []) = eqb b lineFeed
+endsLine (b ∷ c ∷ s) = endsLine (c ∷ s)
+
 -- The words of a line: it is split at every space, so that there is one word more than spaces, and some may be empty.
 unfoldable pub wordsOf : List ℕ → List (List ℕ)
 wordsOf [] = [] ∷ []

@@ -16,7 +16,7 @@ abbrev pub behind : List ℕ → List ℕ
 behind s = drop (spanOf s) s
 
 -- Behind a command fewer bytes are left.
-fewer : (s : List ℕ) → 0 < length s → length (behind s) < length s
+pub fewer : (s : List ℕ) → 0 < length s → length (behind s) < length s
 fewer s more = omega (arith, length-drop (spanOf s) s, span-some s more)
 
 -- One step of the walk where bytes are left.

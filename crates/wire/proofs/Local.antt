@@ -62,7 +62,8 @@ reaching s r =
       ),
     )
 
-reaches-on : (s t : List ℕ) → Reaches s → Reaches (s ++ t)
+-- They do so as well where the list goes on.
+pub reaches-on : (s t : List ℕ) → Reaches s → Reaches (s ++ t)
 reaches-on s t r =
     let same = length-on s t (r .head) in
     let more = length-append s t in
