@@ -47,7 +47,7 @@ taken-noting b latest s = ap (λ c. record { told = taken b s .told; bench = c }
     go true = refl
     go false = refl
 
-list-noting : (b : Bench) (latest : Latest) (sender : ℕ) (numbers : List ℕ) (rs : List (List ℕ))
+pub list-noting : (b : Bench) (latest : Latest) (sender : ℕ) (numbers : List ℕ) (rs : List (List ℕ))
     → runRests (noting b latest) sender numbers rs
     ≡ record { bench = noting (runRests b sender numbers rs .bench) latest; records = runRests b sender numbers rs .records }
 unfolding runRests

@@ -7,6 +7,7 @@ pub mod Dark
 pub mod FreeEntries
 pub mod HowMany
 pub mod TwoEvenings
+pub mod SameLater
 pub mod Report
 pub mod TypedReport
 pub mod LastNumbers

@@ -1,7 +1,8 @@
 -- 02, Q-12, for clubs to read: a long list may be split over two meetings, or three. `evening` (specs/Evenings) is the run of a pupil's list with the
 -- kit's list empty, `typedEvening` the same of a typed list, and `Joins` says when one evening is two of them joined: the camera and the store are the
 -- same, the counts add up, and the joined run's records, byte for byte as they stand in the lent rooms, are the first one's and then the second one's
--- with their numbers raised. No second passes between the evenings.
+-- with their numbers raised. No second passes between the evenings. "Q-11's numbers of the latest run are not compared"; that a bench has no other field,
+-- and that these never show but in its housekeeping, is in SameLater.
 use Prim.Native.Nat.{ℕ, _+_, _≤_, _<_}
 use mathlib.Core.Path.{_≡_, refl, sym, ap, ap₂, _∙_, subst}
 use mathlib.Core.Logic.{_↔_, _≢_}
@@ -34,7 +35,7 @@ use Rattle.bench.specs.Status.{freshBench, benchSound}
 use Rattle.bench.specs.Carry.{taken}
 use Rattle.bench.specs.Run.{ownNumbers, noting, runCode, runOf}
 use Rattle.bench.specs.Typed.{typedFound, typedOf}
-use Rattle.bench.specs.Evenings.{Evening, evening, typedEvening, raised, SameState, Joins, Agree, JoinsThree, endsList}
+use Rattle.bench.specs.Evenings.{Evening, evening, typedEvening, raised, Joins, Agree, JoinsThree, endsList}
 use Rattle.bench.proofs.InTurn.{leftBy}
 use Rattle.bench.proofs.Sound.{fresh-sound}
 use Rattle.bench.proofs.Report.{recordAt, restAt, benchAt}
@@ -77,12 +78,6 @@ no-kit-records b s room = go (eqb (runCode b [] s room) 0)
     go : (accepted : Bool) → _≡_ {A = ℕ} (cond accepted 0 0) 0
     go true = refl
     go false = refl
-
--- # "Q-11's numbers of the latest run are not compared"
-
--- A bench is its camera, its store and these numbers, so where the state is the same nothing else can differ.
-pub same-but-latest : (b c : Bench) → SameState b c → b ≡ noting c (b .latest)
-same-but-latest b c same = rw (same .0, same .1)
 
 -- # "B's numbers rise"
 
