@@ -11,7 +11,7 @@ work=$(mktemp -d)
 trap 'rm -rf "$work"' EXIT
 
 # The fixed scripts have about 133,000 answers, so this is some random ones more.
-amount=(--answers 151000 --lists 5 --inputs 5 --sums 50)
+amount=(--answers 151000 --lists 5 --inputs 5 --sums 50 --evenings 20)
 
 # A mistake may well make a number overflow; that is to show as a difference
 # in the transcript, not as a reference that stops.

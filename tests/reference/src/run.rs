@@ -72,6 +72,12 @@ pub fn commands_of(list: &[u8]) -> Vec<&[u8]> {
         .collect()
 }
 
+/// Whether a list comes to its end between two commands: none of its bytes has code 1, 2
+/// or 3, so that another list may be joined to it.
+pub fn rests(list: &[u8]) -> bool {
+    commands_of(list).iter().all(|one| extent(one).is_ok())
+}
+
 fn run_one(bench: &mut Bench, sender: u8, list: &[u8], records: &mut Vec<Record>) {
     for start in starts_of(list) {
         let own = records.iter().filter(|record| record.sender == sender);

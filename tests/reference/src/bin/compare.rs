@@ -1,30 +1,34 @@
 //! The random comparison of a replay program, a list program, the programs for
-//! typed lists and a cases program with the reference. Exits with 0 when nothing differs and
-//! every code occurred, with 1 when not, and with 2 when it was not told what to
-//! compare.
+//! typed lists and a cases program with the reference, and of the replay program's
+//! answers with each other. Exits with 0 when nothing differs and every code occurred,
+//! with 1 when not, and with 2 when it was not told what to compare.
 
 use std::process::ExitCode;
 use std::time::Instant;
 
+use reference::comparison::agreement::{disagreement, Disagreement};
+use reference::comparison::evenings::{batches, Evenings};
 use reference::comparison::items::Item;
 use reference::comparison::options::{Options, USAGE};
 use reference::comparison::program::Program;
 use reference::comparison::rng::Rng;
-use reference::comparison::shrink::shrunk;
+use reference::comparison::shrink::{commands, lines, shrunk};
 use reference::comparison::tally::{first_difference, grouped, Tally};
 use reference::comparison::{fixed, fixed_dark, fixed_range, inputs, random, sums};
+use reference::comparison::{fixed_evenings, random_evenings};
 use reference::list::listing;
 use reference::pictures::answers;
 use reference::programs::{assembler, lister, typed};
 use reference::replay::{hex, transcript, Replay, Script};
-use reference::run::{commands_of, LONGEST_LIST};
+use reference::run::LONGEST_LIST;
 
 /// Says that a difference was found and printed.
 struct Differs;
 
 /// How much was sent and compared: scripts to the replay program and the lines
 /// of its answers, lists to the list program, inputs to the programs for typed
-/// lists, and sums to the cases program.
+/// lists, and sums to the cases program; and lists split over two evenings and over
+/// three, whose scripts and answers are among the others.
 #[derive(Default)]
 struct Sent {
     scripts: u64,
@@ -32,6 +36,21 @@ struct Sent {
     lists: usize,
     inputs: usize,
     sums: usize,
+    pairs: usize,
+    triples: usize,
+}
+
+impl Sent {
+    /// All but the scripts and the answers.
+    fn others(&self) -> String {
+        let (lists, inputs) = (self.lists, self.inputs);
+        let [sums, pairs, triples] =
+            [self.sums, self.pairs, self.triples].map(|number| grouped(number as u64));
+        format!(
+            "{lists} lists, {inputs} inputs, {sums} sums, \
+             {pairs} pairs and {triples} triples of evenings"
+        )
+    }
 }
 
 /// Streams of random numbers for whole inputs lie far from those for scripts.
@@ -39,6 +58,7 @@ const LIST_STREAM: u64 = 1 << 32;
 const TEXT_STREAM: u64 = 2 << 32;
 const RAW_STREAM: u64 = 3 << 32;
 const SUM_STREAM: u64 = 4 << 32;
+const EVENING_STREAM: u64 = 5 << 32;
 
 /// A program that answers a whole input, and what is expected of it.
 struct Subject<'a> {
@@ -65,29 +85,17 @@ fn main() -> ExitCode {
     let Ok(sent) = compare_all(&options, &mut tally) else {
         return ExitCode::FAILURE;
     };
-    let Sent {
-        scripts,
-        answers,
-        lists,
-        inputs,
-        sums,
-    } = sent;
-    let sums = grouped(sums as u64);
     print!("{}", tally.table());
+    let (scripts, others) = (sent.scripts, sent.others());
     let seconds = begun.elapsed().as_secs_f64();
-    println!(
-        "{scripts} scripts, {lists} lists, {inputs} inputs and {sums} sums took {seconds:.1} s"
-    );
+    println!("{scripts} scripts, {others} took {seconds:.1} s");
     let missing = tally.missing();
     if !missing.is_empty() {
         println!("codes that never occurred: {missing:?}");
         return ExitCode::FAILURE;
     }
-    let (answers, seed) = (grouped(answers), options.seed);
-    println!(
-        "compared {answers} answers, {lists} lists, {inputs} inputs, {sums} sums, \
-         seed {seed}: no difference"
-    );
+    let (answers, seed) = (grouped(sent.answers), options.seed);
+    println!("compared {answers} answers, {others}, seed {seed}: no difference");
     ExitCode::SUCCESS
 }
 
@@ -96,6 +104,7 @@ fn compare_all(options: &Options, tally: &mut Tally) -> Result<Sent, Differs> {
     sent.lists = compare_lists(options)?;
     sent.inputs = compare_typed_lists(options)?;
     sent.sums = compare_sums(options)?;
+    compare_evenings(options, tally, &mut sent)?;
     Ok(sent)
 }
 
@@ -109,24 +118,59 @@ fn compare_scripts(options: &Options, tally: &mut Tally) -> Result<Sent, Differs
         if sent.scripts >= always && sent.answers >= options.answers {
             break;
         }
-        sent.answers += compare_script(&options.replay, &script, tally)?;
+        let answers = compare_script(&options.replay, &script, tally)?;
+        sent.answers += answers.lines().count() as u64;
         sent.scripts += 1;
     }
     Ok(sent)
 }
 
-fn compare_script(program: &Program, items: &[Item], tally: &mut Tally) -> Result<u64, Differs> {
+/// What the program answered, where that is what the reference answers.
+fn compare_script(program: &Program, items: &[Item], tally: &mut Tally) -> Result<String, Differs> {
     let script = items.concat();
     let expected = transcript(&script);
     tally.add(&expected);
-    match difference(program, &script, &expected) {
-        None => Ok(expected.lines().count() as u64),
-        Some(found) => {
-            println!("a script differs:");
-            let last = item_of_line(items, found.line);
-            Err(report(program, transcript, items, last))
-        }
+    answered(program, &script, &expected).map_err(|difference| {
+        println!("a script differs:");
+        let last = item_of_line(items, difference.line);
+        report(program, transcript, items, last)
+    })
+}
+
+/// Fixed and random lists split over evenings. Each is compared with the reference, like
+/// any script, and then the program's answers with each other.
+fn compare_evenings(options: &Options, tally: &mut Tally, sent: &mut Sent) -> Result<(), Differs> {
+    let mut all = fixed_evenings::evenings();
+    all.extend(many_evenings(options));
+    sent.pairs = all.iter().filter(|one| one.parts.len() == 2).count();
+    sent.triples = all.iter().filter(|one| one.parts.len() == 3).count();
+    for batch in batches(all) {
+        let items: Vec<Item> = batch.iter().flat_map(Evenings::items).collect();
+        let answers = compare_script(&options.replay, &items, tally)?;
+        compare_plans(&options.replay, &batch, &answers)?;
+        sent.answers += answers.lines().count() as u64;
+        sent.scripts += 1;
     }
+    Ok(())
+}
+
+/// Random ones: pairs, then half as many triples.
+fn many_evenings(options: &Options) -> Vec<Evenings> {
+    let pairs = options.evenings as u64;
+    let all = (0..pairs + pairs / 2).map(|index| {
+        let rng = Rng::stream(options.seed, EVENING_STREAM + index);
+        random_evenings::evenings(rng, if index < pairs { 2 } else { 3 })
+    });
+    all.collect()
+}
+
+/// Compares the program's answers to all of these, which came in one text, with each other.
+fn compare_plans(program: &Program, all: &[Evenings], answers: &str) -> Result<(), Differs> {
+    let mut lines = answers.lines();
+    let differing = all
+        .iter()
+        .find(|one| disagreement(one, &mut lines).is_some());
+    differing.map_or(Ok(()), |one| Err(report_evenings(program, one)))
 }
 
 fn compare_lists(options: &Options) -> Result<usize, Differs> {
@@ -193,7 +237,7 @@ fn compare_sums(options: &Options) -> Result<usize, Differs> {
 
 fn compare_inputs(subject: &Subject, inputs: &[Vec<u8>]) -> Result<usize, Differs> {
     for input in inputs {
-        if difference(subject.program, input, &(subject.expected)(input)).is_some() {
+        if answered(subject.program, input, &(subject.expected)(input)).is_err() {
             println!("a {} differs:", subject.input);
             let pieces = (subject.pieces)(input);
             return Err(report(
@@ -205,15 +249,6 @@ fn compare_inputs(subject: &Subject, inputs: &[Vec<u8>]) -> Result<usize, Differ
         }
     }
     Ok(inputs.len())
-}
-
-fn commands(list: &[u8]) -> Vec<Item> {
-    commands_of(list).iter().map(|part| part.to_vec()).collect()
-}
-
-fn lines(text: &[u8]) -> Vec<Item> {
-    let lines = text.split_inclusive(|byte| *byte == b'\n');
-    lines.map(|line| line.to_vec()).collect()
 }
 
 /// As many whole flushes as fit, and zeros behind them.
@@ -230,21 +265,20 @@ struct Difference {
     found: String,
 }
 
-fn difference(program: &Program, input: &[u8], expected: &str) -> Option<Difference> {
-    match program.answer(input) {
-        Ok(found) => {
-            let (line, expected, found) = first_difference(expected, &found)?;
-            Some(Difference {
-                line,
-                expected,
-                found,
-            })
-        }
-        // Nobody knows at which line it went wrong, so all items are kept.
-        Err(trouble) => Some(Difference {
-            line: usize::MAX,
-            expected: "an end".into(),
-            found: trouble,
+/// What the program answers, where that is what is expected.
+fn answered(program: &Program, input: &[u8], expected: &str) -> Result<String, Difference> {
+    // Nobody knows at which line it went wrong, so all items are kept.
+    let found = program.answer(input).map_err(|trouble| Difference {
+        line: usize::MAX,
+        expected: "an end".into(),
+        found: trouble,
+    })?;
+    match first_difference(expected, &found) {
+        None => Ok(found),
+        Some((line, expected, found)) => Err(Difference {
+            line,
+            expected,
+            found,
         }),
     }
 }
@@ -273,14 +307,10 @@ fn report(
 ) -> Differs {
     let show = |items: &[Item]| {
         let input = items.concat();
-        difference(program, &input, &expected(&input))
+        answered(program, &input, &expected(&input)).err()
     };
     let smallest = shrunk(items, last, &mut |fewer| show(fewer).is_some());
-    let bytes: usize = smallest.iter().map(Vec::len).sum();
-    println!("smallest found, {bytes} bytes, one item a line:");
-    for item in &smallest {
-        println!("  {}", hex(item));
-    }
+    print_smallest(&smallest);
     match show(&smallest) {
         None => println!("the program does not always answer the same"),
         Some(found) => {
@@ -288,6 +318,34 @@ fn report(
             println!("first differing line{}:", known.unwrap_or_default());
             println!("  reference: {}", found.expected);
             println!("  program:   {}", found.found);
+        }
+    }
+    Differs
+}
+
+fn print_smallest(items: &[Item]) {
+    let bytes: usize = items.iter().map(Vec::len).sum();
+    println!("smallest found, {bytes} bytes, one item a line:");
+    for item in items {
+        println!("  {}", hex(item));
+    }
+}
+
+/// The same for evenings of which the program's own answers disagree.
+fn report_evenings(program: &Program, evenings: &Evenings) -> Differs {
+    println!("evenings differ from one evening with the whole list:");
+    let show = |evenings: &Evenings| {
+        let answers = program.answer(&evenings.items().concat()).ok()?;
+        disagreement(evenings, &mut answers.lines())
+    };
+    let smallest = evenings.smallest(&mut |fewer| show(fewer).is_some());
+    print_smallest(&smallest.items());
+    match show(&smallest) {
+        None => println!("the program does not always answer the same"),
+        Some(Disagreement { foretold, found }) => {
+            println!("first differing line of the one evening:");
+            println!("  foretold: {foretold}");
+            println!("  program:  {found}");
         }
     }
     Differs

@@ -5,7 +5,7 @@ use super::program::Program;
 
 pub const USAGE: &str = "usage: compare --replay \"CMD\" --list \"CMD\" \
     --typed \"CMD\" --assemble \"CMD\" --lister \"CMD\" --cases \"CMD\" \
-    [--seed N] [--lists N] [--inputs N] [--sums N] [--answers N]";
+    [--seed N] [--lists N] [--inputs N] [--sums N] [--evenings N] [--answers N]";
 
 pub struct Options {
     pub replay: Program,
@@ -21,6 +21,9 @@ pub struct Options {
     pub inputs: usize,
     /// How many random sums the cases program is asked for, besides the fixed ones.
     pub sums: usize,
+    /// How many random lists are split over two evenings, besides the fixed ones; half as
+    /// many more are split over three.
+    pub evenings: usize,
     /// How many transcript lines are to be compared at least.
     pub answers: u64,
 }
@@ -29,6 +32,7 @@ const DEFAULT_SEED: u64 = 1;
 const DEFAULT_LISTS: usize = 150;
 const DEFAULT_INPUTS: usize = 40;
 const DEFAULT_SUMS: usize = 400;
+const DEFAULT_EVENINGS: usize = 600;
 const DEFAULT_ANSWERS: u64 = 240_000;
 
 /// The same options while it is not yet known whether all have been given.
@@ -44,6 +48,7 @@ struct Given {
     lists: Option<usize>,
     inputs: Option<usize>,
     sums: Option<usize>,
+    evenings: Option<usize>,
     answers: Option<u64>,
 }
 
@@ -61,6 +66,7 @@ impl Given {
             "--lists" => self.lists = Some(value.parse().ok()?),
             "--inputs" => self.inputs = Some(value.parse().ok()?),
             "--sums" => self.sums = Some(value.parse().ok()?),
+            "--evenings" => self.evenings = Some(value.parse().ok()?),
             "--answers" => self.answers = Some(value.parse().ok()?),
             _ => return None,
         }
@@ -85,6 +91,7 @@ impl Options {
             lists: given.lists.unwrap_or(DEFAULT_LISTS),
             inputs: given.inputs.unwrap_or(DEFAULT_INPUTS),
             sums: given.sums.unwrap_or(DEFAULT_SUMS),
+            evenings: given.evenings.unwrap_or(DEFAULT_EVENINGS),
             answers: given.answers.unwrap_or(DEFAULT_ANSWERS),
         })
     }

@@ -23,18 +23,13 @@ const MOST_SHOWN: usize = 150;
 pub(super) struct Maker {
     pub(super) rng: Rng,
     pub(super) shadow: Replay,
-    items: Vec<Item>,
+    pub(super) items: Vec<Item>,
     bytes: usize,
 }
 
 /// One random script of about 60 KB, always the same for the same generator.
 pub fn script(rng: Rng) -> Vec<Item> {
-    let mut maker = Maker {
-        rng,
-        shadow: Replay::default(),
-        items: Vec::new(),
-        bytes: 0,
-    };
+    let mut maker = Maker::new(rng);
     while maker.bytes < SCRIPT_AIM {
         maker.first_light();
         maker.episode();
@@ -51,6 +46,15 @@ pub fn list(rng: &mut Rng) -> Vec<u8> {
 }
 
 impl Maker {
+    pub(super) fn new(rng: Rng) -> Self {
+        Maker {
+            rng,
+            shadow: Replay::default(),
+            items: Vec::new(),
+            bytes: 0,
+        }
+    }
+
     pub(super) fn push(&mut self, item: Item) {
         if self.bytes + item.len() > LONGEST_SCRIPT {
             return;
@@ -300,7 +304,7 @@ impl Maker {
 
     /// Two lists whose commands are aimed at the state that those before them
     /// leave; the shadow only tries them out, for the run may yet be refused.
-    fn aimed_lists(&mut self) -> (Vec<u8>, Vec<u8>) {
+    pub(super) fn aimed_lists(&mut self) -> (Vec<u8>, Vec<u8>) {
         let before = self.shadow.clone();
         let damage = self.rng.pick(&[0, 1, 10]);
         let lists = [(); 2].map(|_| self.aimed_list(damage));
@@ -310,8 +314,14 @@ impl Maker {
     }
 
     pub(super) fn aimed_list(&mut self, damage_percent: usize) -> Vec<u8> {
+        let commands = self.rng.below(60);
+        self.aimed_commands(commands, damage_percent)
+    }
+
+    /// So many commands, each aimed at the state that those before it leave.
+    pub(super) fn aimed_commands(&mut self, commands: usize, damage_percent: usize) -> Vec<u8> {
         let mut list = Vec::new();
-        for _ in 0..self.rng.below(60) {
+        for _ in 0..commands {
             let mut bytes = self.likely_command();
             if self.rng.percent(damage_percent) {
                 bytes = damaged(&mut self.rng, &bytes);

@@ -116,8 +116,15 @@ impl Maker {
     }
 
     fn aimed_text(&mut self) -> Vec<u8> {
+        let lines = self.rng.below(50);
+        self.aimed_lines(lines)
+    }
+
+    /// So many good lines, each aimed at the state that those before it leave; now and
+    /// then two more that may be bad.
+    pub(super) fn aimed_lines(&mut self, lines: usize) -> Vec<u8> {
         let mut text = Vec::new();
-        for _ in 0..self.rng.below(50) {
+        for _ in 0..lines {
             let (flag, kind, values) = self.likely(0);
             let flag = texts::fitting_flag(kind, flag);
             let bytes = raw(flag, kind, values);

@@ -1,14 +1,26 @@
 //! Makes a script that shows a difference smaller, by dropping whole items for
-//! as long as the difference remains.
+//! as long as the difference remains; and the pieces of inputs that are no script.
 
 use std::time::{Duration, Instant};
 
 use super::items::Item;
+use crate::run::commands_of;
 
 /// Each try starts a program, which may be slow; a script that is small enough
 /// to read is the aim, not the smallest of all.
 const MOST_TRIES: usize = 400;
 const TIME_LIMIT: Duration = Duration::from_secs(60);
+
+/// A list in pieces, of which a smaller one may lack some.
+pub fn commands(list: &[u8]) -> Vec<Item> {
+    commands_of(list).iter().map(|part| part.to_vec()).collect()
+}
+
+/// A text in pieces, each with its line feed.
+pub fn lines(text: &[u8]) -> Vec<Item> {
+    let lines = text.split_inclusive(|byte| *byte == b'\n');
+    lines.map(|line| line.to_vec()).collect()
+}
 
 /// Counts the tries and asks whether a script still shows the difference.
 struct Trial<'a> {
