@@ -4,7 +4,6 @@ use mathlib.Core.Path.{_≡_, refl, sym, ap, _∙_, subst}
 use mathlib.Core.Logic.{_≢_}
 use mathlib.Core.List.{List, [], _∷_}
 use mathlib.Core.Bool.{Bool, true, false, not, true≢false}
-use native.Mathlib.Omega.{arith}
 use lib.ListN.{length}
 use lib.Dec.{ltb}
 use borrow.Author.Tests.{le-ltb, ne-eqb}
@@ -36,27 +35,18 @@ short-code b s room short = rw (le-ltb 4096 (length s) short)
 pub raw-accepted : (b : Bench) → benchSound b ≡ true → (s room : List ℕ) → length s ≤ 4096 → reportRoom ≤ length room → evening b s room .code ≡ 0
 raw-accepted b sound s room short enough = short-code b s room short ∙ rw (sound, le-ltb (length room) reportRoom enough)
 
--- A typed run is accepted exactly where it has passed what `Passed` (TypedReport) says.
-pub typed-passes : (b : Bench) (text room : List ℕ) → typed-runs.Passed b [] text room → typedEvening b text room .code ≡ 0
+-- A typed list behind an empty kit list is taken where nothing is wrong with the text, its list, the room and the bench.
+pub typed-taken : (b : Bench) (text room : List ℕ) → length text ≤ 32768 → badLine text .told .code ≡ 0 → length (bytesIn text) ≤ 4096
+    → reportRoom ≤ length room → benchSound b ≡ true → typedEvening b text room .code ≡ 0
 unfolding typedOf typedFound
-typed-passes b text room p =
+typed-taken b text room text-short good list-short enough sound =
     ap (λ (f : Finding). f .told .code)
     (silent-found (typedFindings b [] text room) (
-      rw (le-ltb 32768 (length text) (p .text-short)),
-      (
-        p .good,
-        (rw (le-ltb 4096 (length (bytesIn text)) (p .list-short)), (rw (le-ltb (length room) reportRoom (p .enough)), (rw (p .sound), tt))),
-      ),
+      rw (le-ltb 32768 (length text) text-short),
+      (good, (rw (le-ltb 4096 (length (bytesIn text)) list-short), (rw (le-ltb (length room) reportRoom enough), (rw sound, tt)))),
     ))
 
--- So a text without a bad line, whose list has so many bytes.
-pub typed-taken : (b : Bench) (text room : List ℕ) (bytes : ℕ) → length text ≤ 32768 → badLine text .told .code ≡ 0 → length (bytesIn text) ≡ bytes
-    → bytes ≤ 4096 → reportRoom ≤ length room → benchSound b ≡ true → typedEvening b text room .code ≡ 0
-typed-taken b text room bytes text-short good size list-short enough sound =
-    typed-passes b text room
-    (record { text-short = text-short; kit-short = omega arith; good = good; list-short = omega arith; enough = enough; sound = sound })
-
--- And one with a bad line, which is not too long itself, is answered with that line.
+-- One with a bad line, where the text is not too long, is answered with that line.
 pub bad-found : (b : Bench) (text room : List ℕ) → length text ≤ 32768 → badLine text .told .code ≢ 0 → typedOf b [] text room .found ≡ badLine text
 unfolding typedOf typedFound firstFound
 bad-found b text room short bad = rw (le-ltb 32768 (length text) short, ne-eqb (badLine text .told .code) 0 bad)

@@ -42,7 +42,7 @@ use Rattle.bench.proofs.Report.{recordAt, restAt, benchAt}
 use Rattle.bench.proofs.Report as raw
 use Rattle.bench.proofs.TypedReport as typed-runs
 use Rattle.bench.proofs.Joining.{reach-told, own-joined, CarriedOut, raw-carried, typed-carried, left-by, code-at}
-use Rattle.bench.proofs.EveningCodes.{roomCode, short-code, raw-accepted, typed-passes, typed-taken, bad-found, Stays, evening-stays, typed-stays}
+use Rattle.bench.proofs.EveningCodes.{roomCode, short-code, raw-accepted, typed-taken, bad-found, Stays, evening-stays, typed-stays}
 use Rattle.bench.proofs.Joining.{Splits, splits, none-split, either-way, in-a-row}
 
 -- # "no code 1, 2 or 3 occurs in A"
@@ -261,27 +261,11 @@ module _ (b : Bench) (one two room room₁ room₂ : List ℕ) (ends : endsLine 
         let good = good-joined one two ends .0 (p .good) in
         let text-long = length-append one two in
         let list-long = ap length (bytes-joined one two ends) ∙ length-append (bytesIn one) (bytesIn two) in
-        let text = p .text-short in
-        let list = p .list-short in
+        let text-short = p .text-short in
+        let list-short = p .list-short in
         let enough = p .enough in (
-          typed-passes b one room₁
-              (record {
-                text-short = omega arith;
-                kit-short = omega arith;
-                good = good .0;
-                list-short = omega arith;
-                enough = omega arith;
-                sound = p .sound;
-              }),
-          typed-passes (typed-first .bench) two room₂
-              (record {
-                text-short = omega arith;
-                kit-short = omega arith;
-                good = good .1;
-                list-short = omega arith;
-                enough = omega arith;
-                sound = stays .sound ∙ p .sound;
-              }),
+          typed-taken b one room₁ (omega arith) (good .0) (omega arith) (omega arith) (p .sound),
+          typed-taken (typed-first .bench) two room₂ (omega arith) (good .1) (omega arith) (omega arith) (stays .sound ∙ p .sound),
         )
 
     -- and where neither is, and both together are not too long, the joined run is accepted.
@@ -291,15 +275,7 @@ module _ (b : Bench) (one two room room₁ room₂ : List ℕ) (ends : endsLine 
         let p = typed-runs.passed b [] one room₁ first-done in
         let q = typed-runs.passed (typed-first .bench) [] two room₂ second-done in
         let enough = p .enough in
-        typed-passes b (one ++ two) room
-        (record {
-          text-short = text-short;
-          kit-short = omega arith;
-          good = good-joined one two ends .1 (p .good, q .good);
-          list-short = list-short;
-          enough = omega arith;
-          sound = p .sound;
-        })
+        typed-taken b (one ++ two) room text-short (good-joined one two ends .1 (p .good, q .good)) list-short (omega arith) (p .sound)
 
     typed-split : typed-joined .code ≡ 0 → Splits (length (linesOf one)) typed-joined typed-first typed-second
     typed-split done =
@@ -441,9 +417,11 @@ unfolding typedOf typedFound firstFound lineFindings linesOf wordsOf sameText di
 line-feed-needed room room₁ room₂ enough₁ enough₂ =
     let one = ascii "img_pwr 1" in
     let two = ascii "tlm_flush\n" in
-    let first = typedEvening freshBench one room₁ in (
-      typed-taken freshBench one room₁ 12 (omega arith) refl refl (omega arith) enough₁ (fresh-sound .sound),
-      typed-taken (first .bench) two room₂ 8 (omega arith) refl refl (omega arith) enough₂
-          (typed-stays freshBench (fresh-sound .shaped) one room₁ .sound ∙ fresh-sound .sound),
+    let first = typedEvening freshBench one room₁ in
+    let one-bytes : length (bytesIn one) ≡ 12 = refl in
+    let two-bytes : length (bytesIn two) ≡ 8 = refl in
+    let still-sound = typed-stays freshBench (fresh-sound .shaped) one room₁ .sound ∙ fresh-sound .sound in (
+      typed-taken freshBench one room₁ (omega arith) refl (omega arith) enough₁ (fresh-sound .sound),
+      typed-taken (first .bench) two room₂ (omega arith) refl (omega arith) enough₂ still-sound,
       refl,
     )

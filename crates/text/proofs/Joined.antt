@@ -24,7 +24,7 @@ use Rattle.text.proofs.Found.{found-append}
 use Rattle.text.proofs.Gathers.{listed-append}
 use Rattle.text.proofs.Assembled.{AllRead, assembled-passes}
 
--- Its lines.
+-- Their lines: the first text's last line is whole.
 some-line : (b : ℕ) (s : List ℕ) → 0 < length (linesOf (b ∷ s))
 unfolding linesOf
 some-line b s = go (eqb b lineFeed) (linesOf s)

@@ -6,7 +6,7 @@ use mathlib.Core.Logic.{_↔_}
 use mathlib.Core.List.{List, [], _∷_, _++_, map}
 use mathlib.Core.Bool.{Bool, true, false, _&&_, false≢true}
 use native.Mathlib.Omega.{arith}
-use lib.ListN.{length, getD, drop, length-append}
+use lib.ListN.{length, getD, drop, length-append, length-map}
 use lib.Seq.{drop-append-le}
 use lib.Dec.{eqb}
 use borrow.Author.Tests.{eqb-true, eq-eqb}
@@ -67,13 +67,9 @@ pub rests-joined : (s t : List ℕ) → unbroken s ≡ true → rests (s ++ t) �
 rests-joined s t whole = joined-in (length s) s t (omega arith) whole
 
 -- So they have the commands of both.
-each-length : (t : List ℕ) (rs : List (List ℕ)) → length (eachThen t rs) ≡ length rs
-each-length t [] = refl
-each-length t (r ∷ rs) = ap suc (each-length t rs)
-
 pub joined-count : (s t : List ℕ) → unbroken s ≡ true → length (rests (s ++ t)) ≡ length (rests s) + length (rests t)
 joined-count s t whole =
-    ap length (rests-joined s t whole) ∙ length-append (eachThen t (rests s)) (rests t) ∙ ap (λ n. n + length (rests t)) (each-length t (rests s))
+    ap length (rests-joined s t whole) ∙ length-append (eachThen t (rests s)) (rests t) ∙ ap (λ n. n + length (rests t)) (length-map (rests s) (λ r. r ++ t))
 
 -- And where no such code occurs in either, none occurs in both joined.
 reach-append : (t : List ℕ) (rs ts : List (List ℕ)) → allReach rs ≡ true → allReach ts ≡ true → allReach (eachThen t rs ++ ts) ≡ true
