@@ -374,7 +374,7 @@ module _ (room room₁ room₂ : List ℕ) (enough : reportRoom ≤ length room)
         power-joined = ap (λ (c : Bench). c .camera .power) (left-by h) ∙ joined-is;
       }
 
-  -- "Power on", split: behind its second word the first part has code 3, behind its first word it has code 1. What is left of it alone is no command, so
+  -- 01's "power on", split: behind its second word the first part has code 3, behind its first word it has code 1. What is left of it alone is no command, so
   -- the power stays off.
   pub code-3-differs : let one = bytesOf (0x01140003 ∷ 0x01000000 ∷ []) in
       let two = bytesOf (0x00140003 ∷ []) in
