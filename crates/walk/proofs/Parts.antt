@@ -16,31 +16,26 @@ use Rattle.walk.proofs.Turns.{CommandAt}
 pub nothing-at : (s : List ℕ) (at : ℕ) → length s ≤ at → bytesAt s at ≡ []
 nothing-at s at end = rw (drop-of-length-le s {i = at} end, take-nil)
 
--- Command `number` begins at a place of the list.
-module _ (s : List ℕ) (number at : ℕ) (is : at ≡ startOf s number) where
-  -- Before the list's end it has n bytes there.
+-- A place of the list.
+module _ (s : List ℕ) (at : ℕ) where
+  -- Before the list's end a command of n bytes begins there.
   module _ (n : ℕ) (here : CommandAt s at n) where
     size : at + n - at ≡ spanOf (drop at s)
     size = omega (arith, here .own)
 
-    pub bytes-here : take (at + n - at) (drop at s) ≡ commandOf s number
-    bytes-here = rw (size, is)
+    pub bytes-here : take (at + n - at) (drop at s) ≡ bytesAt s at
+    bytes-here = rw size
 
-    some : length (commandOf s number) ≡ n
+    some : length (bytesAt s at) ≡ n
     some =
         ap length (sym bytes-here) ∙ length-take-le (at + n - at) (drop at s) (omega (arith, here .ends, length-drop at s)) ∙ omega arith
 
-    pub offset-here : at ≡ offsetTo (commandOf s number) (startOf s number)
-    offset-here =
-        is ∙ sym (ap (λ b. cond b 0 (startOf s number)) (ne-eqb (length (commandOf s number)) 0 (λ z. omega (arith, some, here .moves))))
+    pub offset-here : at ≡ offsetTo (bytesAt s at) at
+    offset-here = sym (ap (λ b. cond b 0 at) (ne-eqb (length (bytesAt s at)) 0 (λ z. omega (arith, some, here .moves))))
 
-  -- At its end there is no such command.
-  module _ (end : length s ≤ at) where
-    pub bytes-none : commandOf s number ≡ []
-    bytes-none = nothing-at s (startOf s number) (omega arith)
-
-    pub offset-none : 0 ≡ offsetTo (commandOf s number) (startOf s number)
-    offset-none = rw bytes-none
+  -- At its end, or past it, none does.
+  pub offset-none : length s ≤ at → 0 ≡ offsetTo (bytesAt s at) at
+  offset-none end = rw (nothing-at s at end)
 
 -- Two parts with the same bytes, as far behind their lists' starts.
 abbrev Alike : List ℕ → ℕ → List ℕ → ℕ → Type 0

@@ -1,6 +1,6 @@
 // How a list of commands is walked: where each command begins, and the bytes of a reported command as a part of its sender's list.
 ghost use mathlib.Core.Path.{_≡_};
-ghost use Rattle.walk.specs.Shown.{startOf, commandOf, shownOf, askedOf, offsetTo, offsetOf, sliceOf, Placed};
+ghost use Rattle.walk.specs.Shown.{startOf, bytesAt, commandOf, shownOf, askedOf, offsetTo, offsetOf, sliceOf, Placed};
 
 // The longest list that is taken, in bytes.
 pub const LONGEST: usize = 4096;
@@ -48,17 +48,24 @@ fn number_asked(kit: &[u8], pupil: &[u8], sender: u8, number: u32) -> u32
     0
 }
 
-// The bytes of a list's command; the empty part at the list's start where it has no such command.
-fn part_of<'a>(s: &'a [u8], number: u32) -> &'a [u8]
-    ensures { λ r. ⌜ now r ≡ commandOf (now (s .entry)) number ⌝ }
-    ensures { λ r. ⌜ Placed (s .entry) r (offsetTo (commandOf (now (s .entry)) number) (startOf (now (s .entry)) number)) ⌝ }
+// The bytes of the command that begins at a place; the empty part at the list's start where the list has no such place.
+pub fn bytes_at<'a>(s: &'a [u8], at: usize) -> &'a [u8]
+    ensures { λ r. ⌜ now r ≡ bytesAt (now (s .entry)) at ⌝ }
+    ensures { λ r. ⌜ Placed (s .entry) r (offsetTo (bytesAt (now (s .entry)) at) at) ⌝ }
 {
-    let at = start_of(s, number);
     if at < s.len() {
         let end = at + wire::span(&s[at..]);
         return &s[at..end];
     }
     &s[..0]
+}
+
+// The bytes of a list's command; the empty part at the list's start where it has no such command.
+fn part_of<'a>(s: &'a [u8], number: u32) -> &'a [u8]
+    ensures { λ r. ⌜ now r ≡ commandOf (now (s .entry)) number ⌝ }
+    ensures { λ r. ⌜ Placed (s .entry) r (offsetTo (commandOf (now (s .entry)) number) (startOf (now (s .entry)) number)) ⌝ }
+{
+    bytes_at(s, start_of(s, number))
 }
 
 // The bytes of a reported command: a part of that sender's own list, empty where there is no such record.

@@ -1,86 +1,16 @@
--- `part_of` meets its contract, by `Parts`: the bytes between a command's first byte and the next command's are its own.
-use mathlib.Core.Path.{refl, sym}
-use native.Mathlib.Omega.{arith}
+-- `part_of` meets its contract: the bytes at the place where the command begins.
 use borrow.Author.Needs.{needs}
-use Rattle.walk.proofs.Turns.{CommandAt, command-at}
-use Rattle.walk.proofs.Parts.{bytes-here, offset-here, bytes-none, offset-none}
 use Rattle.walk.proofs.part_of.Statement.{statement}
 use Rattle.walk.proofs.part_of.Tie as tie
 
 start-of-requires : tie.Need-start-of-requires
 start-of-requires c κs = search needs
 
-sub-span : tie.Need-sub-span
-sub-span c = search needs
-
-part-span-start : tie.Need-part-span-start
-part-span-start c = search needs
-
-part-span-end : tie.Need-part-span-end
-part-span-end c = search needs
-
-span-requires : tie.Need-span-requires
-span-requires c κs = search needs
-
--- The command that is shown.
-here : (c : tie.After-span)
-    → CommandAt (c .before .before .before .before .before .args .s .now) (c .before .before .before .start-of .result) (c .span .result)
-here c =
-    command-at (c .before .before .before .before .before .args .s .now) (c .before .before .before .start-of .result) (c .span .result)
-    (c .before .before .if1 .taken) (c .span .ensures)
-
-add-end : tie.Need-add-end
-add-end c = omega (arith, here c)
-
-sub-result : tie.Need-sub-result
-sub-result c = search needs
-
-part-result-start : tie.Need-part-result-start
-part-result-start c = search needs
-
-part-result-end : tie.Need-part-result-end
-part-result-end c = omega (arith, here c)
+bytes-at-requires : tie.Need-bytes-at-requires
+bytes-at-requires c κs = search needs
 
 returns : tie.Need-returns
-returns c =
-    let start = c .before .before .before .before .before .before .args in
-    let s = start .s .now in
-    let at = c .before .before .before .before .start-of in (
-      bytes-here s (start .number) (at .result) (at .ensures) (c .before .span .result) (here (c .before)),
-      record {
-        block = refl;
-        start = omega (arith, offset-here s (start .number) (at .result) (at .ensures) (c .before .span .result) (here (c .before)));
-      },
-    )
-
-slice-aggregate-result : tie.Need-slice-aggregate-result
-slice-aggregate-result c = search needs
-
-returns-2 : tie.Need-returns-2
-returns-2 c =
-    let start = c .before .before .before .before .args in
-    let s = start .s .now in
-    let at = c .before .before .start-of in (
-      sym (bytes-none s (start .number) (at .result) (at .ensures) (c .before .if1 .left)),
-      record {
-        block = refl;
-        start = omega (arith, offset-none s (start .number) (at .result) (at .ensures) (c .before .if1 .left));
-      },
-    )
+returns c = rw (← c .before .start-of .ensures) (c .bytes-at .ensures)
 
 pub part-of-spec : {M : Type 1} → statement M
-part-of-spec =
-    tie.close
-    (tie.spec
-    start-of-requires
-    sub-span
-    part-span-start
-    part-span-end
-    span-requires
-    add-end
-    sub-result
-    part-result-start
-    part-result-end
-    returns
-    slice-aggregate-result
-    returns-2)
+part-of-spec = tie.close (tie.spec start-of-requires bytes-at-requires returns)

@@ -1,0 +1,4 @@
+-- Laws of an index.
+mod Starts
+mod Offsets
+mod Ends
