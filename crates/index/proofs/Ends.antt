@@ -2,7 +2,7 @@
 use Prim.Native.Nat.{ℕ, _+_, _-_, _≤_, _<_}
 use mathlib.Core.Path.{_≡_, refl, sym, ap, _∙_}
 use mathlib.Core.List.{List, _++_}
-use mathlib.Core.Bool.{Bool, true, false}
+use mathlib.Core.Bool.{true, false}
 use native.Mathlib.Omega.{arith}
 use lib.ListN.{length, take, drop, length-append}
 use lib.Seq.{sets, sets-eq, length-take-le}
@@ -11,7 +11,7 @@ use borrow.Author.Tests.{le-ltb, lt-ltb}
 use Rattle.words.proofs.Laws.{sets-append}
 use Rattle.index.specs.declared.Indexed.{Indexed}
 use Rattle.index.specs.Index.{startsFrom, lastOf, indexOf}
-use Rattle.index.specs.Answers.{unfit, buildCode, Answer, answerOf, builtAs, roomAfter}
+use Rattle.index.specs.Answers.{unfit, buildCode, answerOf, builtAs, roomAfter}
 
 -- The offsets that stay, and how many an index has.
 pub length-kept : (old : List ℕ) → length (take (length old - 1) old) ≡ length old - 1

@@ -1,5 +1,5 @@
 -- The tests of the offsets that are handed in: rising and lying in the list, one offset at a time, and the four answers.
-use Prim.Native.Nat.{ℕ, _+_, _-_, _≤_, _<_}
+use Prim.Native.Nat.{ℕ, _+_, _≤_, _<_}
 use mathlib.Core.Path.{_≡_, refl, sym, ap, _∙_}
 use mathlib.Core.List.{List, [], _∷_}
 use mathlib.Core.Bool.{Bool, true, false, not, _&&_, _||_}
@@ -7,7 +7,7 @@ use native.Mathlib.Omega.{arith}
 use native.Mathlib.Numerals.{add-one}
 use lib.ListN.{length, getD, drop, drop-of-length-le}
 use lib.Seq.{drop-cons}
-use lib.Dec.{eqb, leb, ltb}
+use lib.Dec.{leb, ltb}
 use borrow.Author.Tests.{ne-eqb, le-leb, lt-leb, le-ltb, lt-ltb}
 use Rattle.index.specs.Index.{lastOf}
 use Rattle.index.specs.Answers.{fromZero, rising, within, unfit}
@@ -63,7 +63,7 @@ climbing-all end os = climbs-from 0 end os ∙ ap (λ b. (b && rising os) && wit
     low [] = refl
     low (o ∷ os) = le-leb 0 o (omega arith)
 
-either : (a b : Bool) → not (a && b) ≡ (not a || not b)
+pub either : (a b : Bool) → not (a && b) ≡ (not a || not b)
 either true b = refl
 either false b = refl
 

@@ -4,17 +4,13 @@ use mathlib.Core.Path.{_≡_, refl, sym, ap, _∙_}
 use mathlib.Core.List.{List, []}
 use mathlib.Core.Bool.{Bool, true, false, cond, not, _||_}
 use native.Mathlib.Omega.{arith}
-use lib.ListN.{length, take, drop, length-drop, drop-of-length-le}
-use lib.Seq.{length-take-le, take-nil}
+use lib.ListN.{length, take, drop, length-drop}
+use lib.Seq.{length-take-le}
 use lib.Dec.{eqb}
 use borrow.Author.Tests.{ne-eqb, eqb-true}
 use Rattle.wire.specs.Read.{spanOf}
 use Rattle.walk.specs.Shown.{tooLong, startOf, bytesAt, commandOf, shownOf, askedOf, offsetTo, offsetOf}
-use Rattle.walk.proofs.Turns.{CommandAt}
-
--- At the list's end or past it there are no bytes.
-pub nothing-at : (s : List ℕ) (at : ℕ) → length s ≤ at → bytesAt s at ≡ []
-nothing-at s at end = rw (drop-of-length-le s {i = at} end, take-nil)
+use Rattle.walk.proofs.Turns.{CommandAt, nothing-at}
 
 -- A place of the list.
 module _ (s : List ℕ) (at : ℕ) where

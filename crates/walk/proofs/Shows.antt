@@ -15,7 +15,7 @@ use Rattle.walk.specs.Walk.{startAfter, rests}
 use Rattle.walk.specs.Shown.{tooLong, startOf, commandOf, listOf, shownOf, offsetOf}
 use Rattle.walk.proofs.Spans.{span-passed, span-ended, span-within, span-some}
 use Rattle.walk.proofs.Rests.{rest-at, rest-there}
-use Rattle.walk.proofs.Parts.{nothing-at}
+use Rattle.walk.proofs.Turns.{nothing-at}
 
 -- The command that some bytes begin with.
 abbrev pub first : List ℕ → List ℕ

@@ -1,16 +1,17 @@
 -- A place in a list that a walk has reached: one step on from there, and the end.
 use Prim.Native.Nat.{ℕ, _+_, _-_, _≤_, _<_}
 use mathlib.Core.Path.{_≡_, refl, ap, _∙_}
-use mathlib.Core.List.{List}
+use mathlib.Core.List.{List, []}
 use mathlib.Core.Bool.{Bool, true, false}
 use native.Mathlib.Omega.{arith}
 use native.Mathlib.Numerals.{add-one}
-use lib.ListN.{length, take, drop, length-drop}
-use lib.Seq.{take-all}
+use lib.ListN.{length, take, drop, length-drop, drop-of-length-le}
+use lib.Seq.{take-all, take-nil}
 use lib.Dec.{ltb}
 use borrow.Author.Tests.{ltb-true, ltb-false}
 use Rattle.wire.specs.Read.{spanOf}
 use Rattle.walk.specs.Walk.{startAfter}
+use Rattle.walk.specs.Shown.{bytesAt}
 use Rattle.walk.proofs.Spans.{span-within, span-some}
 use Rattle.walk.proofs.Rests.{start-within, rest-there}
 
@@ -22,6 +23,10 @@ past s j k end later = go (ltb (startAfter s k) (length s)) refl
     go true is =
         let there = rest-there s k .1 (ltb-true (startAfter s k) (length s) is) in absurd (omega (arith, rest-there s j .0 (omega arith)))
     go false is = omega (arith, ltb-false (startAfter s k) (length s) is, start-within s k)
+
+-- At the list's end or past it there are no bytes.
+pub nothing-at : (s : List ℕ) (at : ℕ) → length s ≤ at → bytesAt s at ≡ []
+nothing-at s at end = rw (drop-of-length-le s {i = at} end, take-nil)
 
 -- The part of a list from a place on is all that is left there.
 pub from-place : (s : List ℕ) (at : ℕ) → take (length s - at) (drop at s) ≡ drop at s

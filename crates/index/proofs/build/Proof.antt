@@ -1,5 +1,4 @@
 -- `build` meets its contract: each of its ends by `Ends`.
-use Prim.Native.Nat.{_≤_}
 use mathlib.Core.Path.{_≡_, sym, _∙_}
 use native.Mathlib.Omega.{arith}
 use lib.ListN.{length, take}

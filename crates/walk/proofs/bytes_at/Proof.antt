@@ -2,8 +2,8 @@
 use mathlib.Core.Path.{refl, sym}
 use native.Mathlib.Omega.{arith}
 use borrow.Author.Needs.{needs}
-use Rattle.walk.proofs.Turns.{CommandAt, command-at}
-use Rattle.walk.proofs.Parts.{nothing-at, bytes-here, offset-here, offset-none}
+use Rattle.walk.proofs.Turns.{CommandAt, command-at, nothing-at}
+use Rattle.walk.proofs.Parts.{bytes-here, offset-here, offset-none}
 use Rattle.walk.proofs.bytes_at.Statement.{statement}
 use Rattle.walk.proofs.bytes_at.Tie as tie
 
