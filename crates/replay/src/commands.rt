@@ -1,12 +1,13 @@
 // The items with one command: 01 carries it out from bytes, 09 carries out a decoded one and writes it; 07 reads one and, where it is taken,
 // writes it again.
-use super::items::FILL;
-use super::items::ROOM;
 use super::items::State;
 use super::names;
-use super::output;
-use super::script;
+use super::tellings;
 use bench::Verdict;
+use script::Place;
+use script::output;
+use script::rooms;
+use script::rooms::FILL;
 use wire::Command;
 use wire::Reading;
 use wire::Writing;
@@ -32,15 +33,15 @@ fn written(out: &mut [u8], used: usize, command: Command, room: &mut [u8]) -> us
 fn taken(out: &mut [u8], used: usize, bytes: &[u8], room: &mut [u8]) -> usize {
     match wire::read_command(bytes) {
         Reading::Taken(command) => {
-            let used = output::told(out, used, wire::plain(0));
+            let used = tellings::told(out, used, wire::plain(0));
             written(out, used, command, room)
         }
-        Reading::Refused(refusal) => output::told(out, used, wire::told_of(refusal)),
+        Reading::Refused(refusal) => tellings::told(out, used, wire::told_of(refusal)),
     }
 }
 
 fn read_line(out: &mut [u8], used: usize, bytes: &[u8], length: u8) -> usize {
-    let mut room = [FILL; ROOM];
+    let mut room = [FILL; rooms::SHORT];
     let length = length as usize;
     let used = output::text(out, used, b"read");
     let used = taken(out, used, bytes, &mut room[0..length]);
@@ -49,46 +50,43 @@ fn read_line(out: &mut [u8], used: usize, bytes: &[u8], length: u8) -> usize {
 
 // 07, a room's length of one byte, and the bytes of a command: `read CODE PAR VALUE LOW HIGH`; where the code is 0, `read 0 0 0 0 0 CODE` with the
 // code of the writing, and the bytes.
-pub fn read(state: State, s: &[u8], out: &mut [u8]) -> State {
-    let length = script::take(s, state.at, 1);
+pub fn read(place: Place, s: &[u8], out: &mut [u8]) -> Place {
+    let length = script::take(s, place.at, 1);
     let bytes = script::take_short(s, length.to);
     if !bytes.whole {
-        return state.bad(out);
+        return place.bad(out);
     }
     let length = words::byte_at(s, length.from);
-    let used = read_line(out, state.used, script::bytes(s, bytes), length);
-    state.answered(bytes.to, used)
+    let used = read_line(out, place.used, script::bytes(s, bytes), length);
+    place.answered(bytes.to, used)
 }
 
 fn carried_line(out: &mut [u8], used: usize, verdict: Verdict) -> usize {
     let used = output::text(out, used, b"command");
-    let used = output::told(out, used, bench::told_of(verdict));
+    let used = tellings::told(out, used, bench::told_of(verdict));
     output::end(out, used)
 }
 
 // 01, the bytes of a command: `command CODE PAR VALUE LOW HIGH`.
 pub fn carry_out(state: State, s: &[u8], out: &mut [u8]) -> State {
-    let bytes = script::take_short(s, state.at);
-    if !bytes.whole {
-        return state.bad(out);
-    }
     let bench = state.bench;
+    let place = state.place;
+    let bytes = script::take_short(s, place.at);
+    if !bytes.whole {
+        return state.went_on(place.bad(out));
+    }
     let carried = bench.carry_out_bytes(script::bytes(s, bytes));
     let verdict = carried.verdict;
-    let used = carried_line(out, state.used, verdict);
+    let used = carried_line(out, place.used, verdict);
     let bench = carried.bench;
-    State {
-        bench,
-        at: bytes.to,
-        used,
-        ..state
-    }
+    let place = place.answered(bytes.to, used);
+    State { bench, place }
 }
 
 fn decoded_line(out: &mut [u8], used: usize, command: Command, verdict: Verdict) -> usize {
     let mut room = [FILL; LONGEST];
     let used = output::text(out, used, b"decoded");
-    let used = output::told(out, used, bench::told_of(verdict));
+    let used = tellings::told(out, used, bench::told_of(verdict));
     let used = written(out, used, command, &mut room);
     output::end(out, used)
 }
@@ -104,12 +102,14 @@ fn decoded(flag: u8, row: u8, first: u32, second: u32) -> Command {
 
 // 09, a flag, a row and two arguments of four bytes: `decoded CODE PAR VALUE LOW HIGH CODE`, with the second code of the writing, and the bytes.
 pub fn carry_out_decoded(state: State, s: &[u8], out: &mut [u8]) -> State {
-    let flag = script::take(s, state.at, 1);
+    let bench = state.bench;
+    let place = state.place;
+    let flag = script::take(s, place.at, 1);
     let row = script::take(s, flag.to, 1);
     let first = script::take(s, row.to, 4);
     let second = script::take(s, first.to, 4);
     if !second.whole {
-        return state.bad(out);
+        return state.went_on(place.bad(out));
     }
     let flag = words::byte_at(s, flag.from);
     let row = words::byte_at(s, row.from);
@@ -119,15 +119,10 @@ pub fn carry_out_decoded(state: State, s: &[u8], out: &mut [u8]) -> State {
         words::word_at(s, first.from),
         words::word_at(s, second.from),
     );
-    let bench = state.bench;
     let carried = bench.carry_out(command);
     let verdict = carried.verdict;
-    let used = decoded_line(out, state.used, command, verdict);
+    let used = decoded_line(out, place.used, command, verdict);
     let bench = carried.bench;
-    State {
-        bench,
-        at: second.to,
-        used,
-        ..state
-    }
+    let place = place.answered(second.to, used);
+    State { bench, place }
 }

@@ -1,15 +1,15 @@
 // The items with a status frame: 02 prints the bench's own; 06 reads one and, where it is taken, writes it again.
-use super::items::FILL;
-use super::items::ROOM;
 use super::items::State;
-use super::output;
-use super::script;
 use bench::Status;
 use bench::Verdict;
 use frame::Frame;
 use frame::Reading;
 use frame::Refusal;
 use frame::Writing;
+use script::Place;
+use script::output;
+use script::rooms;
+use script::rooms::FILL;
 
 // The frame's bytes, or the code where the bench has none.
 fn status_words(out: &mut [u8], used: usize, status: Status) -> usize {
@@ -27,12 +27,13 @@ fn status_words(out: &mut [u8], used: usize, status: Status) -> usize {
 }
 
 // 02: `status` and the bytes of the frame, or `status CODE`.
-pub fn status(state: State, out: &mut [u8]) -> State {
+pub fn status(state: State, out: &mut [u8]) -> Place {
     let bench = state.bench;
-    let used = output::text(out, state.used, b"status");
+    let place = state.place;
+    let used = output::text(out, place.used, b"status");
     let used = status_words(out, used, bench.status());
     let used = output::end(out, used);
-    state.answered(state.at, used)
+    place.answered(place.at, used)
 }
 
 fn refused(out: &mut [u8], used: usize, refusal: Refusal) -> usize {
@@ -62,7 +63,7 @@ fn taken(out: &mut [u8], used: usize, bytes: &[u8], room: &mut [u8]) -> usize {
 }
 
 fn line(out: &mut [u8], used: usize, bytes: &[u8], length: u8) -> usize {
-    let mut room = [FILL; ROOM];
+    let mut room = [FILL; rooms::SHORT];
     let length = length as usize;
     let used = output::text(out, used, b"frame");
     let used = taken(out, used, bytes, &mut room[0..length]);
@@ -70,13 +71,13 @@ fn line(out: &mut [u8], used: usize, bytes: &[u8], length: u8) -> usize {
 }
 
 // 06, a room's length of one byte, and the bytes of a frame: `frame CODE`, or `frame 0 CODE` with the code of the writing and the bytes.
-pub fn read(state: State, s: &[u8], out: &mut [u8]) -> State {
-    let length = script::take(s, state.at, 1);
+pub fn read(place: Place, s: &[u8], out: &mut [u8]) -> Place {
+    let length = script::take(s, place.at, 1);
     let bytes = script::take_short(s, length.to);
     if !bytes.whole {
-        return state.bad(out);
+        return place.bad(out);
     }
     let length = words::byte_at(s, length.from);
-    let used = line(out, state.used, script::bytes(s, bytes), length);
-    state.answered(bytes.to, used)
+    let used = line(out, place.used, script::bytes(s, bytes), length);
+    place.answered(bytes.to, used)
 }

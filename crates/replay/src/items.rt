@@ -3,41 +3,30 @@
 use super::commands;
 use super::frames;
 use super::lists;
-use super::output;
-use super::script;
 use super::seconds;
 use super::tags;
 use super::texts;
 use super::texts::Way;
 use bench::Bench;
+use script::Place;
 
-// What a lent room holds at first, and the longest one whose length is one byte.
-pub const FILL: u8 = 0xaa;
-
-pub const ROOM: usize = 255;
-
-// Where a replay stands: the bench, the place in the script, how much of the output's buffer is used, and whether every item was good so far.
+// The bench, and where the replay stands in the script.
 pub struct State {
     pub bench: Bench,
-    pub at: usize,
-    pub used: usize,
-    pub good: bool,
+    pub place: Place,
 }
 
 impl State {
     pub fn fresh() -> State {
         let bench = Bench::fresh();
-        State {
-            bench,
-            at: 0,
-            used: 0,
-            good: true,
-        }
+        let place = Place::start();
+        State { bench, place }
     }
 
     // Is there another item to take?
     pub fn goes_on(self, s: &[u8]) -> bool {
-        if self.good { self.at < s.len() } else { false }
+        let place = self.place;
+        place.goes_on(s)
     }
 
     // 04: a fresh bench again; nothing is printed.
@@ -46,43 +35,35 @@ impl State {
         State { bench, ..self }
     }
 
-    // After an item that ended here, with its answer in the buffer.
-    pub fn answered(self, at: usize, used: usize) -> State {
-        State { at, used, ..self }
-    }
-
-    // After a bad item.
-    pub fn bad(self, out: &mut [u8]) -> State {
-        let used = output::text(out, self.used, b"bad script\n");
-        State {
-            used,
-            good: false,
-            ..self
-        }
+    // After an item that left the bench as it was.
+    pub fn went_on(self, place: Place) -> State {
+        State { place, ..self }
     }
 }
 
 // Takes one item.
 pub fn item(state: State, s: &[u8], out: &mut [u8]) -> State {
-    let first = script::take(s, state.at, 1);
-    let state = state.answered(first.to, state.used);
+    let place = state.place;
+    let first = script::take(s, place.at, 1);
+    let place = place.answered(first.to, place.used);
+    let state = state.went_on(place);
     match words::byte_at(s, first.from) {
         0 => seconds::second(state, out),
         1 => commands::carry_out(state, s, out),
-        2 => frames::status(state, out),
+        2 => state.went_on(frames::status(state, out)),
         3 => lists::run(state, s, out),
         4 => state.renewed(),
-        5 => lists::shown(state, s, out),
-        6 => frames::read(state, s, out),
-        7 => commands::read(state, s, out),
+        5 => state.went_on(lists::shown(place, s, out)),
+        6 => state.went_on(frames::read(place, s, out)),
+        7 => state.went_on(commands::read(place, s, out)),
         8 => seconds::pass(state, s, out),
         9 => commands::carry_out_decoded(state, s, out),
-        10 => texts::translate(state, s, out, Way::ToList),
-        11 => texts::translate(state, s, out, Way::ToText),
+        10 => state.went_on(texts::translate(place, s, out, Way::ToList)),
+        11 => state.went_on(texts::translate(place, s, out, Way::ToText)),
         12 => texts::run(state, s, out),
-        13 => texts::line(state, s, out),
-        14 => tags::own(state, s, out),
-        15 => tags::read(state, s, out),
-        _ => state.bad(out),
+        13 => state.went_on(texts::line(place, s, out)),
+        14 => state.went_on(tags::own(state, s, out)),
+        15 => state.went_on(tags::read(place, s, out)),
+        _ => state.went_on(place.bad(out)),
     }
 }

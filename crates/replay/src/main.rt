@@ -5,14 +5,14 @@ mod frames;
 mod items;
 mod lists;
 mod names;
-mod output;
-mod rooms;
-mod script;
+mod reports;
 mod seconds;
 mod tags;
+mod tellings;
 mod texts;
 
 use items::State;
+use script::output;
 
 // Takes one item after another until the script ends or an item is bad. Each item takes a byte at least, so the script's length bounds the turns.
 fn replay(s: &[u8], out: &mut [u8]) {
@@ -22,22 +22,13 @@ fn replay(s: &[u8], out: &mut [u8]) {
         state = items::item(state, s, out);
         turns -= 1;
     }
-    output::flush(out, state.used);
-}
-
-// Is there a byte more to read?
-fn has_more() -> bool {
-    let mut next = [0u8; 1];
-    io::read_full(0, &mut next) != 0
+    let place = state.place;
+    output::flush(out, place.used);
 }
 
 fn main() {
-    let mut script = io::large_buffer();
+    let mut room = io::large_buffer();
     let mut out = io::large_buffer();
-    let n = io::read_full(0, &mut script);
-    if has_more() {
-        io::write_all(1, b"too long\n");
-        return;
-    }
-    replay(&script[..n], &mut out);
+    let n = script::read(&mut room);
+    replay(&room[..n], &mut out);
 }

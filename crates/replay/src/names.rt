@@ -1,7 +1,7 @@
 // The commands by name, as the table of commands has them, in lower case; and the rows of that table by number.
 ghost use mathlib.Core.Path.{_≡_};
 ghost use lib.ListN.{length};
-use super::output;
+use script::output;
 use wire::Form;
 use wire::Kind;
 use wire::Layout;

@@ -1,10 +1,9 @@
 // The items in which time passes: 00 a second, 08 many of them.
 use super::items::State;
 use super::names;
-use super::output;
-use super::script;
 use bench::Bench;
 use bench::Verdict;
+use script::output;
 use store::Group;
 use wire::Kind;
 
@@ -45,18 +44,16 @@ fn second_line(out: &mut [u8], used: usize, verdict: Verdict, count: u8) -> usiz
 // 00: `second CODE N`, and a line `handed CODE NAME ARGS` for each of the N entries.
 pub fn second(state: State, out: &mut [u8]) -> State {
     let bench = state.bench;
+    let place = state.place;
     let passed = bench.second();
     let verdict = passed.verdict;
     let group = passed.group;
     let codes = passed.codes;
-    let used = second_line(out, state.used, verdict, group.count);
+    let used = second_line(out, place.used, verdict, group.count);
     let used = handed_lines(out, used, group, &codes);
     let bench = passed.bench;
-    State {
-        bench,
-        used,
-        ..state
-    }
+    let place = place.answered(place.at, used);
+    State { bench, place }
 }
 
 fn wait(bench: Bench, seconds: u16) -> Waited {
@@ -81,18 +78,15 @@ fn passed_line(out: &mut [u8], used: usize, entries: u32) -> usize {
 
 // 08, how many seconds in two bytes: `passed N`, N being the entries that they handed over in all.
 pub fn pass(state: State, s: &[u8], out: &mut [u8]) -> State {
-    let seconds = script::take(s, state.at, 2);
-    if !seconds.whole {
-        return state.bad(out);
-    }
     let bench = state.bench;
-    let waited = wait(bench, words::half_at(s, seconds.from));
-    let used = passed_line(out, state.used, waited.entries);
-    let bench = waited.bench;
-    State {
-        bench,
-        at: seconds.to,
-        used,
-        ..state
+    let place = state.place;
+    let seconds = script::take(s, place.at, 2);
+    if !seconds.whole {
+        return state.went_on(place.bad(out));
     }
+    let waited = wait(bench, words::half_at(s, seconds.from));
+    let used = passed_line(out, place.used, waited.entries);
+    let bench = waited.bench;
+    let place = place.answered(seconds.to, used);
+    State { bench, place }
 }

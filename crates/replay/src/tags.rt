@@ -1,15 +1,15 @@
 // The items with a housekeeping frame: 0e writes the bench's own; 0f reads one and, where it is taken, writes it again.
-use super::items::FILL;
-use super::items::ROOM;
 use super::items::State;
-use super::output;
-use super::script;
 use bench::Housekept;
 use bench::Verdict;
 use housekeeping::Housekeeping;
 use housekeeping::Reading;
 use housekeeping::Refusal;
 use housekeeping::Writing;
+use script::Place;
+use script::output;
+use script::rooms;
+use script::rooms::FILL;
 
 // The code of a writing that has too little room, its only refusal.
 const NO_ROOM: u8 = 24;
@@ -51,7 +51,7 @@ fn asked(out: &mut [u8], used: usize, kept: Housekept, room: &mut [u8]) -> usize
 }
 
 fn own_line(out: &mut [u8], used: usize, kept: Housekept, length: u8) -> usize {
-    let mut room = [FILL; ROOM];
+    let mut room = [FILL; rooms::SHORT];
     let length = length as usize;
     let used = output::text(out, used, b"housekeeping");
     let used = asked(out, used, kept, &mut room[0..length]);
@@ -59,15 +59,16 @@ fn own_line(out: &mut [u8], used: usize, kept: Housekept, length: u8) -> usize {
 }
 
 // 0e, a room's length of one byte: `housekeeping CODE`, or `housekeeping 0 RECEIVED FAILED FAILCODE FREE` and the bytes.
-pub fn own(state: State, s: &[u8], out: &mut [u8]) -> State {
-    let length = script::take(s, state.at, 1);
-    if !length.whole {
-        return state.bad(out);
-    }
+pub fn own(state: State, s: &[u8], out: &mut [u8]) -> Place {
     let bench = state.bench;
+    let place = state.place;
+    let length = script::take(s, place.at, 1);
+    if !length.whole {
+        return place.bad(out);
+    }
     let room = words::byte_at(s, length.from);
-    let used = own_line(out, state.used, bench.housekeeping(), room);
-    state.answered(length.to, used)
+    let used = own_line(out, place.used, bench.housekeeping(), room);
+    place.answered(length.to, used)
 }
 
 // The code of writing a frame that was read and, where that is 0, the bytes written.
@@ -98,7 +99,7 @@ fn taken(out: &mut [u8], used: usize, s: &[u8], room: &mut [u8]) -> usize {
 }
 
 fn line(out: &mut [u8], used: usize, s: &[u8], length: u8) -> usize {
-    let mut room = [FILL; ROOM];
+    let mut room = [FILL; rooms::SHORT];
     let length = length as usize;
     let used = output::text(out, used, b"tags");
     let used = taken(out, used, s, &mut room[0..length]);
@@ -107,13 +108,13 @@ fn line(out: &mut [u8], used: usize, s: &[u8], length: u8) -> usize {
 
 // 0f, a room's length of one byte, and the bytes of a frame: `tags CODE`, or `tags 0 RECEIVED FAILED FAILCODE FREE CODE` with the code of the
 // writing, and the bytes.
-pub fn read(state: State, s: &[u8], out: &mut [u8]) -> State {
-    let length = script::take(s, state.at, 1);
+pub fn read(place: Place, s: &[u8], out: &mut [u8]) -> Place {
+    let length = script::take(s, place.at, 1);
     let bytes = script::take_short(s, length.to);
     if !bytes.whole {
-        return state.bad(out);
+        return place.bad(out);
     }
     let length = words::byte_at(s, length.from);
-    let used = line(out, state.used, script::bytes(s, bytes), length);
-    state.answered(bytes.to, used)
+    let used = line(out, place.used, script::bytes(s, bytes), length);
+    place.answered(bytes.to, used)
 }

@@ -1,10 +1,12 @@
 // The items with text: 0a assembles a raw list of one, 0b lists a raw list as one, 0c runs the kit's raw list and a typed one, 0d shows a line.
-use super::items::FILL;
 use super::items::State;
-use super::output;
-use super::rooms;
-use super::script;
+use super::reports;
+use super::tellings;
 use bench::TypedRan;
+use script::Place;
+use script::output;
+use script::rooms;
+use script::rooms::FILL;
 use text::Finding;
 use text::Translated;
 
@@ -20,7 +22,7 @@ fn finding(out: &mut [u8], used: usize, found: Finding) -> usize {
     let stray = told.stray;
     let used = output::number(out, used, told.code as u64);
     let used = output::number(out, used, found.number as u64);
-    output::wrong(out, used, stray)
+    tellings::wrong(out, used, stray)
 }
 
 // The end of a translation's line, ` CODE NUMBER PAR VALUE LOW HIGH` and the bytes written, and the rest of the room.
@@ -49,63 +51,62 @@ fn translated(out: &mut [u8], used: usize, way: Way, bytes: &[u8], room: &mut [u
 
 // 0a, a room's length of two bytes, and a text: `assembled CODE LINE PAR VALUE LOW HIGH` and the bytes of its list, and a line `rest`.
 // 0b, a room's length of two bytes, and a raw list: `listed CODE NUMBER PAR VALUE LOW HIGH` and the bytes of its text, and a line `rest`.
-pub fn translate(state: State, s: &[u8], out: &mut [u8], way: Way) -> State {
-    let length = script::take(s, state.at, 2);
+pub fn translate(place: Place, s: &[u8], out: &mut [u8], way: Way) -> Place {
+    let length = script::take(s, place.at, 2);
     let bytes = script::take_long(s, length.to);
     if !bytes.whole {
-        return state.bad(out);
+        return place.bad(out);
     }
     let mut room = [FILL; rooms::LARGEST];
-    let length = rooms::capped(words::half_at(s, length.from));
+    let length = rooms::capped(words::half_at(s, length.from), rooms::LARGEST);
     let list = script::bytes(s, bytes);
-    let used = translated(out, state.used, way, list, &mut room[0..length]);
-    state.answered(bytes.to, used)
+    let used = translated(out, place.used, way, list, &mut room[0..length]);
+    place.answered(bytes.to, used)
 }
 
 fn typed_lines(out: &mut [u8], used: usize, ran: TypedRan, room: &[u8]) -> usize {
     let begun = ran.begun;
     let used = output::text(out, used, b"typed");
     let used = finding(out, used, bench::finding_of(begun));
-    rooms::report_lines(out, used, ran.kit, ran.pupil, room)
+    reports::lines(out, used, ran.kit, ran.pupil, room)
 }
 
 fn carried(state: State, out: &mut [u8], kit: &[u8], text: &[u8], room: &mut [u8]) -> State {
     let bench = state.bench;
+    let place = state.place;
     let ran = bench.run_typed(kit, text, room);
-    let used = typed_lines(out, state.used, ran, room);
+    let used = typed_lines(out, place.used, ran, room);
     let bench = ran.bench;
-    State {
-        bench,
-        used,
-        ..state
-    }
+    let place = place.answered(place.at, used);
+    State { bench, place }
 }
 
 // 0c, a room's length of two bytes, the kit's raw list and a text: `typed CODE LINE PAR VALUE LOW HIGH KIT PUPIL`, then the records and the rest as
 // 03 has them.
 pub fn run(state: State, s: &[u8], out: &mut [u8]) -> State {
-    let length = script::take(s, state.at, 2);
+    let place = state.place;
+    let length = script::take(s, place.at, 2);
     let kit = script::take_long(s, length.to);
     let text = script::take_long(s, kit.to);
     if !text.whole {
-        return state.bad(out);
+        return state.went_on(place.bad(out));
     }
     let mut room = [FILL; rooms::LARGEST];
-    let length = rooms::capped(words::half_at(s, length.from));
-    let state = state.answered(text.to, state.used);
+    let length = rooms::capped(words::half_at(s, length.from), rooms::LARGEST);
+    let state = state.went_on(place.answered(text.to, place.used));
     let kit = script::bytes(s, kit);
     let text = script::bytes(s, text);
     carried(state, out, kit, text, &mut room[0..length])
 }
 
 // 0d, a text and a number of four bytes: `line` and the bytes of that line, nothing behind it where there are none.
-pub fn line(state: State, s: &[u8], out: &mut [u8]) -> State {
-    let typed = script::take_long(s, state.at);
+pub fn line(place: Place, s: &[u8], out: &mut [u8]) -> Place {
+    let typed = script::take_long(s, place.at);
     let number = script::take(s, typed.to, 4);
     if !number.whole {
-        return state.bad(out);
+        return place.bad(out);
     }
     let bytes = text::line_shown(script::bytes(s, typed), words::word_at(s, number.from));
-    let used = output::bytes_line(out, state.used, b"line", bytes);
-    state.answered(number.to, used)
+    let used = output::bytes_line(out, place.used, b"line", bytes);
+    place.answered(number.to, used)
 }

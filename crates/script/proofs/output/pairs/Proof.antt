@@ -3,8 +3,8 @@ use Prim.Native.Nat.{_≤_, _-_}
 use mathlib.Core.Path.{_≡_}
 use borrow.Author.Needs.{needs}
 use lib.ListN.{length}
-use Rattle.replay.proofs.output.pairs.Statement.{statement}
-use Rattle.replay.proofs.output.pairs.Tie as tie
+use Rattle.script.proofs.output.pairs.Statement.{statement}
+use Rattle.script.proofs.output.pairs.Tie as tie
 
 abbrev Inv-loop : tie.InvT-loop
 Inv-loop out₀ used s next₀ i₀ out next i = (i ≤ length s) × (length out ≡ length out₀)

@@ -1,7 +1,7 @@
 // The transcript: text is collected in a lent buffer, which is written out when it is full. Each function takes the buffer and how much of it is
 // used, and answers how much is used afterwards. `number` and `hex` put a blank before what they print.
-use wire::Stray;
-use wire::Told;
+use super::bytes;
+use super::take;
 
 // Writes out what the buffer holds, and begins it anew.
 pub fn flush(out: &[u8], used: usize) -> usize {
@@ -57,21 +57,6 @@ pub fn number(out: &mut [u8], used: usize, n: u64) -> usize {
     text(out, used, &digits[..count])
 }
 
-// What was wrong with a number: the parameter, the value found, the lowest and the highest allowed.
-pub fn wrong(out: &mut [u8], used: usize, stray: Stray) -> usize {
-    let used = number(out, used, stray.par as u64);
-    let used = number(out, used, stray.value as u64);
-    let used = number(out, used, stray.low as u64);
-    number(out, used, stray.high as u64)
-}
-
-// A code, and what was wrong with the number.
-pub fn told(out: &mut [u8], used: usize, told: Told) -> usize {
-    let stray = told.stray;
-    let used = number(out, used, told.code as u64);
-    wrong(out, used, stray)
-}
-
 // A byte as two hex digits.
 fn pair(out: &mut [u8], used: usize, b: u8) -> usize {
     let mut digits = [0u8; 16];
@@ -108,4 +93,28 @@ pub fn bytes_line(out: &mut [u8], used: usize, word: &[u8], s: &[u8]) -> usize {
     let used = text(out, used, word);
     let used = hex(out, used, s);
     end(out, used)
+}
+
+// Such a line for each of the first so many pieces of one size, as far as there are whole ones.
+pub fn piece_lines(
+    out: &mut [u8],
+    used: usize,
+    word: &[u8],
+    s: &[u8],
+    size: usize,
+    count: usize,
+) -> usize {
+    let mut next = used;
+    let mut from: usize = 0;
+    let mut i: usize = 0;
+    while i < count {
+        let piece = take(s, from, size);
+        if !piece.whole {
+            return next;
+        }
+        next = bytes_line(out, next, word, bytes(s, piece));
+        from = piece.to;
+        i += 1;
+    }
+    next
 }

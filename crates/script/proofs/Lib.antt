@@ -1,0 +1,3 @@
+-- Laws behind single functions.
+mod Parts
+mod Changes
