@@ -40,13 +40,17 @@ pub const ITEM_CUT_OFF: u8 = 47;
 pub const UNEXPECTED_TAG: u8 = 48;
 pub const WRONG_ITEM_LENGTH: u8 = 49;
 pub const BYTES_LEFT_OVER: u8 = 50;
+pub const BAD_OFFSETS: u8 = 54;
 
-/// Whether a replay can show the code. 27 is left out on purpose: a state
+/// Whether one of the replay programs can show the code. 27 is left out on purpose: a state
 /// reached from a fresh bench is always sound, and replay reaches no other.
 pub fn can_be_shown(code: u8) -> bool {
     matches!(
         code,
-        ACCEPTED..=POWER_OFF | UNKNOWN_NAME..=GOAL_NOT_SAID | ITEM_CUT_OFF..=BYTES_LEFT_OVER
+        ACCEPTED..=POWER_OFF
+            | UNKNOWN_NAME..=GOAL_NOT_SAID
+            | ITEM_CUT_OFF..=BYTES_LEFT_OVER
+            | BAD_OFFSETS
     )
 }
 

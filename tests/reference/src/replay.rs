@@ -51,16 +51,16 @@ impl<'a> Script<'a> {
         Some(part)
     }
 
-    fn byte(&mut self) -> Option<u8> {
+    pub(crate) fn byte(&mut self) -> Option<u8> {
         Some(self.part(1)?[0])
     }
 
-    fn half(&mut self) -> Option<usize> {
+    pub(crate) fn half(&mut self) -> Option<usize> {
         let part = self.part(2)?;
         Some(usize::from(part[0]) << 8 | usize::from(part[1]))
     }
 
-    fn word(&mut self) -> Option<u32> {
+    pub(crate) fn word(&mut self) -> Option<u32> {
         Some((self.half()? as u32) << 16 | self.half()? as u32)
     }
 
@@ -77,7 +77,7 @@ impl<'a> Script<'a> {
     }
 
     /// A part whose length stands before it in two bytes.
-    fn long_part(&mut self) -> Option<&'a [u8]> {
+    pub(crate) fn long_part(&mut self) -> Option<&'a [u8]> {
         let length = self.half()?;
         self.part(length)
     }
@@ -89,14 +89,22 @@ pub fn hex(bytes: &[u8]) -> String {
 
 /// The whole transcript of a script.
 pub fn transcript(script: &[u8]) -> String {
+    let mut replay = Replay::default();
+    transcript_by(script, |left| replay.item(left))
+}
+
+/// The same for any replay program, by what takes one item off its scripts.
+pub(crate) fn transcript_by(
+    script: &[u8],
+    mut item: impl FnMut(&mut Script) -> Option<String>,
+) -> String {
     if script.len() > LONGEST_SCRIPT {
         return "too long\n".into();
     }
-    let mut replay = Replay::default();
     let mut left = Script::new(script);
     let mut text = String::new();
     while !left.rest.is_empty() {
-        match replay.item(&mut left) {
+        match item(&mut left) {
             Some(lines) => text += &lines,
             None => return text + "bad script\n",
         }
@@ -222,15 +230,15 @@ fn report_lines(start: &str, counts: Counts, room: &[u8]) -> String {
     for record in room[..records].chunks_exact(RECORD_BYTES) {
         lines += &format!("record {}\n", hex(record));
     }
-    lines + &rest_line(room, records)
+    lines + &rest_line(room, ROOM_FILL, records)
 }
 
-/// Whether the bytes of a room behind what was written are as they were.
-fn rest_line(room: &[u8], written: usize) -> String {
-    let rest = &room[written..];
-    match rest.iter().position(|byte| *byte != ROOM_FILL) {
+/// Whether the places of a room behind what was written are filled as they were.
+pub(crate) fn rest_line<T: PartialEq>(room: &[T], fill: T, written: usize) -> String {
+    let mut rest = room.iter().enumerate().skip(written);
+    match rest.find(|(_, held)| **held != fill) {
         None => "rest same\n".into(),
-        Some(offset) => format!("rest {}\n", written + offset),
+        Some((place, _)) => format!("rest {place}\n"),
     }
 }
 
@@ -253,11 +261,11 @@ fn written_lines(
     let words = placed_words(&answer);
     let written = answer.unwrap_or_default();
     let first = with_bytes(&format!("{name} {words}"), &room[..written]);
-    Some(first + &rest_line(&room, written))
+    Some(first + &rest_line(&room, ROOM_FILL, written))
 }
 
 /// A line of words and then bytes in hex, without a blank where there are none.
-fn with_bytes(words: &str, bytes: &[u8]) -> String {
+pub(crate) fn with_bytes(words: &str, bytes: &[u8]) -> String {
     let blank = if bytes.is_empty() { "" } else { " " };
     format!("{words}{blank}{}\n", hex(bytes))
 }

@@ -41,7 +41,7 @@ pub fn sealed(words: &[u32]) -> Vec<u8> {
 /// How many bytes the first command takes, or why that cannot be told (1 to 3).
 pub fn extent(bytes: &[u8]) -> Result<usize, Refusal> {
     refuse_if(bytes.len() < SHORTEST_COMMAND, TOO_SHORT)?;
-    let first = words_of(bytes)[0];
+    let first = words_of(&bytes[..WORD_BYTES])[0];
     let length = (first & LENGTH_BITS) as usize;
     refuse_if(!(FEWEST_WORDS..=MOST_WORDS).contains(&length), BAD_LENGTH)?;
     refuse_if(WORD_BYTES * length > bytes.len(), CUT_OFF)?;

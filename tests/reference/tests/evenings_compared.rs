@@ -5,7 +5,8 @@ use std::collections::{BTreeMap, BTreeSet};
 
 use reference::bench::Bench;
 use reference::comparison::agreement::{disagreement, Disagreement};
-use reference::comparison::evenings::{batches, look, rummage, Evenings, Sort};
+use reference::comparison::evenings::{look, rummage, Evenings, Sort};
+use reference::comparison::fixed::batches;
 use reference::comparison::items::{command, passed, run, second, Item};
 use reference::comparison::rng::Rng;
 use reference::comparison::{fixed_evenings, random_evenings};
@@ -468,7 +469,7 @@ fn batches_are_whole_scripts_and_lose_nothing() {
     let mut all = fixed_evenings::evenings();
     all.extend(random(100, 2));
     all.extend(random(50, 3));
-    let batches = batches(all.clone());
+    let batches = batches(all.clone(), Evenings::script_bytes);
     assert_eq!(batches.concat(), all);
     for batch in &batches {
         let script: Vec<Item> = batch.iter().flat_map(Evenings::items).collect();

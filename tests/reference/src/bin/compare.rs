@@ -1,34 +1,36 @@
-//! The random comparison of a replay program, a list program, the programs for
-//! typed lists and a cases program with the reference, and of the replay program's
+//! The random comparison of the replay programs, a list program, the programs for
+//! typed lists and a cases program with the reference, and of the replay programs'
 //! answers with each other. Exits with 0 when nothing differs and every code occurred,
 //! with 1 when not, and with 2 when it was not told what to compare.
 
 use std::process::ExitCode;
 use std::time::Instant;
 
-use reference::comparison::agreement::{disagreement, Disagreement};
-use reference::comparison::evenings::{batches, Evenings};
+use reference::comparison::agreement::disagreement;
+use reference::comparison::evenings::Evenings;
+use reference::comparison::fixed::batches;
+use reference::comparison::growths::{self, Growth};
 use reference::comparison::items::Item;
 use reference::comparison::options::{Options, USAGE};
 use reference::comparison::program::Program;
+use reference::comparison::report::{answered, item_of_line, report, report_disagreement, Differs};
 use reference::comparison::rng::Rng;
-use reference::comparison::shrink::{commands, lines, shrunk};
-use reference::comparison::tally::{first_difference, grouped, Tally};
+use reference::comparison::shrink::{commands, lines};
+use reference::comparison::tally::{grouped, Tally};
 use reference::comparison::{fixed, fixed_dark, fixed_range, inputs, random, sums};
 use reference::comparison::{fixed_evenings, random_evenings};
+use reference::comparison::{fixed_growths, fixed_index, random_index};
 use reference::list::listing;
+use reference::lists_replay;
 use reference::pictures::answers;
 use reference::programs::{assembler, lister, typed};
-use reference::replay::{hex, transcript, Replay, Script};
+use reference::replay::{self, Replay, Script};
 use reference::run::LONGEST_LIST;
 
-/// Says that a difference was found and printed.
-struct Differs;
-
-/// How much was sent and compared: scripts to the replay program and the lines
-/// of its answers, lists to the list program, inputs to the programs for typed
+/// How much was sent and compared: scripts to the replay programs and the lines
+/// of their answers, lists to the list program, inputs to the programs for typed
 /// lists, and sums to the cases program; and lists split over two evenings and over
-/// three, whose scripts and answers are among the others.
+/// three, and lists that grow, whose scripts and answers are among the others.
 #[derive(Default)]
 struct Sent {
     scripts: u64,
@@ -38,17 +40,18 @@ struct Sent {
     sums: usize,
     pairs: usize,
     triples: usize,
+    growths: usize,
 }
 
 impl Sent {
     /// All but the scripts and the answers.
     fn others(&self) -> String {
         let (lists, inputs) = (self.lists, self.inputs);
-        let [sums, pairs, triples] =
-            [self.sums, self.pairs, self.triples].map(|number| grouped(number as u64));
+        let [sums, pairs, triples, growths] =
+            [self.sums, self.pairs, self.triples, self.growths].map(|it| grouped(it as u64));
         format!(
             "{lists} lists, {inputs} inputs, {sums} sums, \
-             {pairs} pairs and {triples} triples of evenings"
+             {pairs} pairs and {triples} triples of evenings, {growths} growing lists"
         )
     }
 }
@@ -59,6 +62,16 @@ const TEXT_STREAM: u64 = 2 << 32;
 const RAW_STREAM: u64 = 3 << 32;
 const SUM_STREAM: u64 = 4 << 32;
 const EVENING_STREAM: u64 = 5 << 32;
+const GROWTH_STREAM: u64 = 6 << 32;
+const INDEX_STREAM: u64 = 7 << 32;
+
+/// A program that takes scripts, and what is expected of it.
+struct Taker<'a> {
+    program: &'a Program,
+    expected: fn(&[u8]) -> String,
+    /// How many lines each item of a script is answered with.
+    line_counts: fn(&[Item]) -> Vec<usize>,
+}
 
 /// A program that answers a whole input, and what is expected of it.
 struct Subject<'a> {
@@ -105,7 +118,39 @@ fn compare_all(options: &Options, tally: &mut Tally) -> Result<Sent, Differs> {
     sent.inputs = compare_typed_lists(options)?;
     sent.sums = compare_sums(options)?;
     compare_evenings(options, tally, &mut sent)?;
+    compare_index_scripts(options, tally, &mut sent)?;
+    compare_growths(options, tally, &mut sent)?;
     Ok(sent)
+}
+
+fn replay_taker(options: &Options) -> Taker<'_> {
+    Taker {
+        program: &options.replay,
+        expected: replay::transcript,
+        line_counts: |items| {
+            let mut replay = Replay::default();
+            let answers = items.iter().map(|item| replay.item(&mut Script::new(item)));
+            answers.map(lines_in).collect()
+        },
+    }
+}
+
+fn lists_taker(options: &Options) -> Taker<'_> {
+    Taker {
+        program: &options.lists_replay,
+        expected: lists_replay::transcript,
+        line_counts: |items| {
+            let answers = items
+                .iter()
+                .map(|it| lists_replay::item(&mut Script::new(it)));
+            answers.map(lines_in).collect()
+        },
+    }
+}
+
+/// A bad item is answered with one line.
+fn lines_in(answer: Option<String>) -> usize {
+    answer.map_or(1, |text| text.lines().count())
 }
 
 /// Compares the fixed scripts, then random ones until there are answers enough.
@@ -118,22 +163,27 @@ fn compare_scripts(options: &Options, tally: &mut Tally) -> Result<Sent, Differs
         if sent.scripts >= always && sent.answers >= options.answers {
             break;
         }
-        let answers = compare_script(&options.replay, &script, tally)?;
-        sent.answers += answers.lines().count() as u64;
-        sent.scripts += 1;
+        compare_script(&replay_taker(options), &script, tally, &mut sent)?;
     }
     Ok(sent)
 }
 
 /// What the program answered, where that is what the reference answers.
-fn compare_script(program: &Program, items: &[Item], tally: &mut Tally) -> Result<String, Differs> {
+fn compare_script(
+    taker: &Taker,
+    items: &[Item],
+    tally: &mut Tally,
+    sent: &mut Sent,
+) -> Result<String, Differs> {
     let script = items.concat();
-    let expected = transcript(&script);
+    let expected = (taker.expected)(&script);
     tally.add(&expected);
-    answered(program, &script, &expected).map_err(|difference| {
+    sent.answers += expected.lines().count() as u64;
+    sent.scripts += 1;
+    answered(taker.program, &script, &expected).map_err(|difference| {
         println!("a script differs:");
-        let last = item_of_line(items, difference.line);
-        report(program, transcript, items, last)
+        let last = item_of_line(&(taker.line_counts)(items), difference.line);
+        report(taker.program, taker.expected, items, last)
     })
 }
 
@@ -144,12 +194,10 @@ fn compare_evenings(options: &Options, tally: &mut Tally, sent: &mut Sent) -> Re
     all.extend(many_evenings(options));
     sent.pairs = all.iter().filter(|one| one.parts.len() == 2).count();
     sent.triples = all.iter().filter(|one| one.parts.len() == 3).count();
-    for batch in batches(all) {
+    for batch in batches(all, Evenings::script_bytes) {
         let items: Vec<Item> = batch.iter().flat_map(Evenings::items).collect();
-        let answers = compare_script(&options.replay, &items, tally)?;
+        let answers = compare_script(&replay_taker(options), &items, tally, sent)?;
         compare_plans(&options.replay, &batch, &answers)?;
-        sent.answers += answers.lines().count() as u64;
-        sent.scripts += 1;
     }
     Ok(())
 }
@@ -171,6 +219,42 @@ fn compare_plans(program: &Program, all: &[Evenings], answers: &str) -> Result<(
         .iter()
         .find(|one| disagreement(one, &mut lines).is_some());
     differing.map_or(Ok(()), |one| Err(report_evenings(program, one)))
+}
+
+/// Fixed items about the index of a list, then random ones.
+fn compare_index_scripts(
+    options: &Options,
+    tally: &mut Tally,
+    sent: &mut Sent,
+) -> Result<(), Differs> {
+    let mut rng = Rng::stream(options.seed, INDEX_STREAM);
+    let mut scripts = fixed_index::scripts();
+    scripts.extend(random_index::scripts(&mut rng, options.indexes));
+    for script in scripts {
+        compare_script(&lists_taker(options), &script, tally, sent)?;
+    }
+    Ok(())
+}
+
+/// Fixed and random lists that grow. What both replay programs answer is compared with the
+/// reference, like any script, and then with each other.
+fn compare_growths(options: &Options, tally: &mut Tally, sent: &mut Sent) -> Result<(), Differs> {
+    let mut rng = Rng::stream(options.seed, GROWTH_STREAM);
+    let mut all = fixed_growths::growths();
+    all.extend((0..options.indexes).map(|_| random_index::growth(&mut rng)));
+    sent.growths = all.len();
+    for batch in batches(all, Growth::script_bytes) {
+        let items: Vec<Item> = batch.iter().flat_map(Growth::index_items).collect();
+        let lists = compare_script(&lists_taker(options), &items, tally, sent)?;
+        let items: Vec<Item> = batch.iter().flat_map(Growth::shown_items).collect();
+        let replay = compare_script(&replay_taker(options), &items, tally, sent)?;
+        let (mut lists, mut replay) = (lists.lines(), replay.lines());
+        let differing = batch
+            .iter()
+            .find(|one| growths::disagreement(one, &mut lists, &mut replay).is_some());
+        differing.map_or(Ok(()), |one| Err(report_growth(options, one)))?;
+    }
+    Ok(())
 }
 
 fn compare_lists(options: &Options) -> Result<usize, Differs> {
@@ -258,80 +342,7 @@ fn full_list(length: usize) -> Vec<u8> {
     list
 }
 
-/// The first line that is not as expected.
-struct Difference {
-    line: usize,
-    expected: String,
-    found: String,
-}
-
-/// What the program answers, where that is what is expected.
-fn answered(program: &Program, input: &[u8], expected: &str) -> Result<String, Difference> {
-    // Nobody knows at which line it went wrong, so all items are kept.
-    let found = program.answer(input).map_err(|trouble| Difference {
-        line: usize::MAX,
-        expected: "an end".into(),
-        found: trouble,
-    })?;
-    match first_difference(expected, &found) {
-        None => Ok(found),
-        Some((line, expected, found)) => Err(Difference {
-            line,
-            expected,
-            found,
-        }),
-    }
-}
-
-/// Which item answers with the line of this number, from 1.
-fn item_of_line(items: &[Item], line: usize) -> usize {
-    let mut replay = Replay::default();
-    let mut lines = 0;
-    for (index, item) in items.iter().enumerate() {
-        let answer = replay.item(&mut Script::new(item));
-        lines += answer.map_or(1, |text| text.lines().count());
-        if lines >= line {
-            return index;
-        }
-    }
-    items.len()
-}
-
-/// Shrinks the items, for which the reference expects what the function says,
-/// and prints what is left of them with the difference that they show.
-fn report(
-    program: &Program,
-    expected: fn(&[u8]) -> String,
-    items: &[Item],
-    last: usize,
-) -> Differs {
-    let show = |items: &[Item]| {
-        let input = items.concat();
-        answered(program, &input, &expected(&input)).err()
-    };
-    let smallest = shrunk(items, last, &mut |fewer| show(fewer).is_some());
-    print_smallest(&smallest);
-    match show(&smallest) {
-        None => println!("the program does not always answer the same"),
-        Some(found) => {
-            let known = (found.line != usize::MAX).then(|| format!(" {}", found.line));
-            println!("first differing line{}:", known.unwrap_or_default());
-            println!("  reference: {}", found.expected);
-            println!("  program:   {}", found.found);
-        }
-    }
-    Differs
-}
-
-fn print_smallest(items: &[Item]) {
-    let bytes: usize = items.iter().map(Vec::len).sum();
-    println!("smallest found, {bytes} bytes, one item a line:");
-    for item in items {
-        println!("  {}", hex(item));
-    }
-}
-
-/// The same for evenings of which the program's own answers disagree.
+/// Shrinks evenings of which the program's own answers disagree, and prints what is left.
 fn report_evenings(program: &Program, evenings: &Evenings) -> Differs {
     println!("evenings differ from one evening with the whole list:");
     let show = |evenings: &Evenings| {
@@ -339,14 +350,18 @@ fn report_evenings(program: &Program, evenings: &Evenings) -> Differs {
         disagreement(evenings, &mut answers.lines())
     };
     let smallest = evenings.smallest(&mut |fewer| show(fewer).is_some());
-    print_smallest(&smallest.items());
-    match show(&smallest) {
-        None => println!("the program does not always answer the same"),
-        Some(Disagreement { foretold, found }) => {
-            println!("first differing line of the one evening:");
-            println!("  foretold: {foretold}");
-            println!("  program:  {found}");
-        }
-    }
-    Differs
+    report_disagreement(&smallest.items(), show(&smallest), "of the one evening")
+}
+
+/// The same for a list that grows.
+fn report_growth(options: &Options, growth: &Growth) -> Differs {
+    println!("answers about a growing list differ, the items for both replay programs:");
+    let show = |growth: &Growth| {
+        let lists = options.lists_replay.answer(&growth.index_items().concat());
+        let replay = options.replay.answer(&growth.shown_items().concat());
+        growths::disagreement(growth, &mut lists.ok()?.lines(), &mut replay.ok()?.lines())
+    };
+    let smallest = growth.smallest(&mut |fewer| show(fewer).is_some());
+    let items = [smallest.index_items(), smallest.shown_items()].concat();
+    report_disagreement(&items, show(&smallest), "about the grown list")
 }

@@ -185,7 +185,7 @@ fn compared(line: &str) -> String {
 }
 
 impl Disagreement {
-    fn new(foretold: &str, found: &str) -> Self {
+    pub(super) fn new(foretold: &str, found: &str) -> Self {
         Disagreement {
             foretold: foretold.into(),
             found: found.into(),

@@ -1,7 +1,6 @@
 //! A list split over several evenings: every plan that joins some of its parts, what is
 //! sent of each, when the plans are bound to agree, and a smaller one of the same sort.
 
-use super::fixed::SCRIPT_AIM;
 use super::fixed_housekeeping::ROOM as FRAME_ROOM;
 use super::items::{fresh, housekeeping, now, passed, run, second, status, typed, Item};
 use super::shrink::{commands, lines, shrunk};
@@ -56,24 +55,6 @@ pub fn rummage(seconds: u16) -> Vec<Item> {
     items
 }
 
-/// Starting a program is slow, so many share a script.
-pub fn batches(all: Vec<Evenings>) -> Vec<Vec<Evenings>> {
-    let mut batches = vec![Vec::new()];
-    let mut filled = 0;
-    for one in all {
-        let bytes = one.items().concat().len();
-        if filled + bytes > SCRIPT_AIM {
-            batches.push(Vec::new());
-            filled = 0;
-        }
-        filled += bytes;
-        if let Some(batch) = batches.last_mut() {
-            batch.push(one);
-        }
-    }
-    batches
-}
-
 impl Evenings {
     /// Every way to join neighbours, from each part by itself to all of them in one list.
     pub fn plans(&self) -> Vec<Plan> {
@@ -97,6 +78,11 @@ impl Evenings {
     pub fn items(&self) -> Vec<Item> {
         let plans = self.plans();
         plans.iter().flat_map(|plan| self.episode(plan)).collect()
+    }
+
+    /// The bytes of all plans.
+    pub fn script_bytes(&self) -> usize {
+        self.items().iter().map(Vec::len).sum()
     }
 
     /// A plan on a fresh bench.
@@ -175,7 +161,7 @@ impl Evenings {
     }
 }
 
-fn placed(place: u8, pieces: &[Item]) -> Vec<Item> {
+pub(super) fn placed(place: u8, pieces: &[Item]) -> Vec<Item> {
     let with_place = pieces.iter().map(|piece| [&[place], &piece[..]].concat());
     with_place.collect()
 }

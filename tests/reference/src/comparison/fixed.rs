@@ -32,24 +32,30 @@ pub fn scripts() -> Vec<Vec<Item>> {
     scripts
 }
 
-/// Starting a program is slow, so many episodes share a script, each on a
-/// fresh bench.
-fn packed(episodes: Vec<Vec<Item>>) -> Vec<Vec<Item>> {
-    let mut scripts = vec![Vec::new()];
+/// Each episode on a fresh bench.
+fn packed(mut episodes: Vec<Vec<Item>>) -> Vec<Vec<Item>> {
+    for episode in &mut episodes {
+        episode.insert(0, fresh());
+    }
+    let batches = batches(episodes, |episode| episode.iter().map(Vec::len).sum());
+    batches.into_iter().map(|batch| batch.concat()).collect()
+}
+
+/// Starting a program is slow, so as many share a script as it has bytes for.
+pub fn batches<T>(all: Vec<T>, bytes: impl Fn(&T) -> usize) -> Vec<Vec<T>> {
+    let mut batches = vec![Vec::new()];
     let mut filled = 0;
-    for episode in episodes {
-        let bytes = 1 + episode.iter().map(Vec::len).sum::<usize>();
-        if filled + bytes > SCRIPT_AIM {
-            scripts.push(Vec::new());
+    for one in all {
+        if filled + bytes(&one) > SCRIPT_AIM {
+            batches.push(Vec::new());
             filled = 0;
         }
-        filled += bytes;
-        if let Some(script) = scripts.last_mut() {
-            script.push(fresh());
-            script.extend(episode);
+        filled += bytes(&one);
+        if let Some(batch) = batches.last_mut() {
+            batch.push(one);
         }
     }
-    scripts
+    batches
 }
 
 /// Items cut off at every sort of place, and first bytes that start no item.

@@ -1,7 +1,8 @@
-//! Builders for the items of a replay script, and for the commands they carry,
+//! Builders for the items of replay scripts, and for the commands they carry,
 //! allowed or not.
 
 use crate::command::{Command, Kind};
+use crate::lists_replay::{INDEX, LOOK_UP};
 use crate::replay::{
     ASSEMBLE, COMMAND, DECODED, FRAME, FRESH, HOUSEKEEPING, LINE, LIST, PASSED, READ, RUN, SECOND,
     SHOWN, STATUS, TAGS, TYPED,
@@ -121,6 +122,28 @@ pub fn housekeeping(room: u8) -> Item {
 pub fn tags(room: u8, bytes: &[u8]) -> Item {
     let mut item = vec![TAGS, room];
     short_part(&mut item, bytes);
+    item
+}
+
+fn long_offsets(item: &mut Item, offsets: &[u16]) {
+    item.extend((offsets.len() as u16).to_be_bytes());
+    item.extend(offsets.iter().flat_map(|offset| offset.to_be_bytes()));
+}
+
+/// An item of the replay program for lists, as the next.
+pub fn index(room: u16, offsets: &[u16], list: &[u8]) -> Item {
+    let mut item = vec![INDEX];
+    item.extend(room.to_be_bytes());
+    long_offsets(&mut item, offsets);
+    long_part(&mut item, list);
+    item
+}
+
+pub fn look_up(offsets: &[u16], list: &[u8], number: u32) -> Item {
+    let mut item = vec![LOOK_UP];
+    long_offsets(&mut item, offsets);
+    long_part(&mut item, list);
+    item.extend(number.to_be_bytes());
     item
 }
 

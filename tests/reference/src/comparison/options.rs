@@ -4,8 +4,8 @@
 use super::program::Program;
 
 pub const USAGE: &str = "usage: compare --replay \"CMD\" --list \"CMD\" \
-    --typed \"CMD\" --assemble \"CMD\" --lister \"CMD\" --cases \"CMD\" \
-    [--seed N] [--lists N] [--inputs N] [--sums N] [--evenings N] [--answers N]";
+    --typed \"CMD\" --assemble \"CMD\" --lister \"CMD\" --cases \"CMD\" --lists_replay \"CMD\" \
+    [--seed N] [--lists N] [--inputs N] [--sums N] [--evenings N] [--indexes N] [--answers N]";
 
 pub struct Options {
     pub replay: Program,
@@ -14,6 +14,7 @@ pub struct Options {
     pub assemble: Program,
     pub lister: Program,
     pub cases: Program,
+    pub lists_replay: Program,
     pub seed: u64,
     /// How many random lists are sent, besides those of 0, 4,096 and 4,097 bytes.
     pub lists: usize,
@@ -24,6 +25,9 @@ pub struct Options {
     /// How many random lists are split over two evenings, besides the fixed ones; half as
     /// many more are split over three.
     pub evenings: usize,
+    /// How many random lists grow, and how many random ones are indexed and looked up by
+    /// offsets of any sort, besides the fixed ones.
+    pub indexes: usize,
     /// How many transcript lines are to be compared at least.
     pub answers: u64,
 }
@@ -33,6 +37,7 @@ const DEFAULT_LISTS: usize = 150;
 const DEFAULT_INPUTS: usize = 40;
 const DEFAULT_SUMS: usize = 400;
 const DEFAULT_EVENINGS: usize = 600;
+const DEFAULT_INDEXES: usize = 600;
 const DEFAULT_ANSWERS: u64 = 240_000;
 
 /// The same options while it is not yet known whether all have been given.
@@ -44,11 +49,13 @@ struct Given {
     assemble: Option<Program>,
     lister: Option<Program>,
     cases: Option<Program>,
+    lists_replay: Option<Program>,
     seed: Option<u64>,
     lists: Option<usize>,
     inputs: Option<usize>,
     sums: Option<usize>,
     evenings: Option<usize>,
+    indexes: Option<usize>,
     answers: Option<u64>,
 }
 
@@ -62,11 +69,13 @@ impl Given {
             "--assemble" => self.assemble = Program::with_errors(value),
             "--lister" => self.lister = Program::with_errors(value),
             "--cases" => self.cases = Program::new(value),
+            "--lists_replay" => self.lists_replay = Program::new(value),
             "--seed" => self.seed = Some(value.parse().ok()?),
             "--lists" => self.lists = Some(value.parse().ok()?),
             "--inputs" => self.inputs = Some(value.parse().ok()?),
             "--sums" => self.sums = Some(value.parse().ok()?),
             "--evenings" => self.evenings = Some(value.parse().ok()?),
+            "--indexes" => self.indexes = Some(value.parse().ok()?),
             "--answers" => self.answers = Some(value.parse().ok()?),
             _ => return None,
         }
@@ -87,17 +96,19 @@ impl Options {
             assemble: given.assemble?,
             lister: given.lister?,
             cases: given.cases?,
+            lists_replay: given.lists_replay?,
             seed: given.seed.unwrap_or(DEFAULT_SEED),
             lists: given.lists.unwrap_or(DEFAULT_LISTS),
             inputs: given.inputs.unwrap_or(DEFAULT_INPUTS),
             sums: given.sums.unwrap_or(DEFAULT_SUMS),
             evenings: given.evenings.unwrap_or(DEFAULT_EVENINGS),
+            indexes: given.indexes.unwrap_or(DEFAULT_INDEXES),
             answers: given.answers.unwrap_or(DEFAULT_ANSWERS),
         })
     }
 
     /// Every program that is to be started.
-    pub fn programs(&self) -> [&Program; 6] {
+    pub fn programs(&self) -> [&Program; 7] {
         [
             &self.replay,
             &self.list,
@@ -105,6 +116,7 @@ impl Options {
             &self.assemble,
             &self.lister,
             &self.cases,
+            &self.lists_replay,
         ]
     }
 }
