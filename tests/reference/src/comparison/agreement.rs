@@ -22,7 +22,7 @@ const NUMBER_TO: usize = 23;
 /// Where the item of the free entries begins in a housekeeping frame in hex.
 const FREE_FROM: usize = 30;
 
-const REST_SAME: &str = "rest same";
+pub(super) const REST_SAME: &str = "rest same";
 
 /// A line of the answer to the whole list in one evening, and what the answer to some plan
 /// foretells for it.

@@ -46,11 +46,12 @@ pub fn batches<T>(all: Vec<T>, bytes: impl Fn(&T) -> usize) -> Vec<Vec<T>> {
     let mut batches = vec![Vec::new()];
     let mut filled = 0;
     for one in all {
-        if filled + bytes(&one) > SCRIPT_AIM {
+        let more = bytes(&one);
+        if filled + more > SCRIPT_AIM {
             batches.push(Vec::new());
             filled = 0;
         }
-        filled += bytes(&one);
+        filled += more;
         if let Some(batch) = batches.last_mut() {
             batch.push(one);
         }

@@ -32,6 +32,7 @@ pub fn scripts() -> Vec<Vec<Item>> {
     items.extend(neighbours());
     items.extend(outside());
     items.extend(empty_list());
+    items.extend(huge_lists());
     items.extend(rooms());
     items.extend(foreign());
     items.extend(orders());
@@ -174,6 +175,13 @@ fn empty_list() -> Vec<Item> {
         items.extend(offsets.map(|offsets| index(room, offsets, &[])));
     }
     items
+}
+
+/// Lists far longer than they may be, some with a length that has the sixteenth bit.
+fn huge_lists() -> Vec<Item> {
+    let lists = [8192, 16_384, 32_768, 40_000, 58_000].map(flushes);
+    let both = |list: &Vec<u8>| [index(ROOM, &[0, 8], list), look_up(&[0, 8], list, 2)];
+    lists.iter().flat_map(both).collect()
 }
 
 /// Every list with rooms of every size and with just enough, one more and one fewer, anew

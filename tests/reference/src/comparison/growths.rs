@@ -3,7 +3,7 @@
 
 use std::str::Lines;
 
-use super::agreement::Disagreement;
+use super::agreement::{Disagreement, REST_SAME};
 use super::evenings::placed;
 use super::fixed::SCRIPT_AIM;
 use super::items::{index, look_up, shown, Item};
@@ -146,17 +146,13 @@ fn pairs(
     lists: &mut Lines,
     replay: &mut Lines,
 ) -> Result<Vec<Disagreement>, Disagreement> {
-    let [start, start_rest] = [next(lists)?, next(lists)?];
-    let [anew, anew_rest] = [next(lists)?, next(lists)?];
-    let [extended, extended_rest] = [next(lists)?, next(lists)?];
+    let (start, anew, extended) = (indexed(lists)?, indexed(lists)?, indexed(lists)?);
     let handed_in = [&growth.start, &growth.list()].map(|list| counted(&index_of(list)));
     let mut pairs = vec![
         // The offsets that the program was handed are those that it finds by itself.
         Disagreement::new(&handed_in[0], without_code(start)),
         Disagreement::new(&handed_in[1], without_code(anew)),
         Disagreement::new(anew, extended),
-        Disagreement::new(start_rest, anew_rest),
-        Disagreement::new(anew_rest, extended_rest),
     ];
     for _ in &growth.numbers {
         let found = behind("found", next(lists)?)?;
@@ -170,6 +166,15 @@ fn pairs(
 fn next<'a>(lines: &mut Lines<'a>) -> Result<&'a str, Disagreement> {
     let no_line = || Disagreement::new("an answer to every item", "(no line)");
     lines.next().ok_or_else(no_line)
+}
+
+/// The first line about an index; behind it the room is as it was.
+fn indexed<'a>(lines: &mut Lines<'a>) -> Result<&'a str, Disagreement> {
+    let (first, rest) = (next(lines)?, next(lines)?);
+    match rest {
+        REST_SAME => Ok(first),
+        _ => Err(Disagreement::new(REST_SAME, rest)),
+    }
 }
 
 /// How many offsets, and each of them, as an answer has them.
