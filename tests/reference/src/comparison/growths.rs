@@ -155,10 +155,11 @@ fn pairs(
         Disagreement::new(anew, extended),
     ];
     for _ in &growth.numbers {
-        let found = behind("found", next(lists)?)?;
-        let kit = behind("shown", next(replay)?)?;
-        let pupil = behind("shown", next(replay)?)?;
-        pairs.extend([kit, pupil].map(|shown| Disagreement::new(shown, found)));
+        let found = next(lists)?;
+        for _ in [KIT, PUPIL] {
+            let shown = shown_bytes(next(replay)?)?;
+            pairs.push(Disagreement::new(&format!("found{shown}"), found));
+        }
     }
     Ok(pairs)
 }
@@ -188,8 +189,8 @@ fn without_code(line: &str) -> &str {
     line.splitn(3, ' ').nth(2).unwrap_or_default()
 }
 
-/// What follows the first word of a line, which is this one.
-fn behind<'a>(word: &str, line: &'a str) -> Result<&'a str, Disagreement> {
-    let other_line = || Disagreement::new(word, line);
-    line.strip_prefix(word).ok_or_else(other_line)
+/// What follows the word in the line about bytes shown.
+fn shown_bytes(line: &str) -> Result<&str, Disagreement> {
+    let other_line = || Disagreement::new("shown", line);
+    line.strip_prefix("shown").ok_or_else(other_line)
 }
