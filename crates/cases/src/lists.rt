@@ -14,7 +14,7 @@ const FLUSH: u32 = 0x015a0002;
 const FLUSHES: usize = walk::LONGEST / words::WORD;
 
 // The room of a list, one byte more than may be run.
-const LIST: usize = walk::LONGEST + 1;
+pub const LIST: usize = walk::LONGEST + 1;
 
 // The largest room of a report; a line that asks for more gets this one.
 const ROOM: usize = report::ROOM + report::RECORD;
@@ -25,7 +25,7 @@ const RUN: usize = 6;
 const SHOWN: usize = 9;
 
 // Makes a list of the bytes from a place of the line on, with FLUSHes behind them.
-fn fill(list: &mut [u8], s: &[u8], from: usize) {
+pub fn fill(list: &mut [u8], s: &[u8], from: usize) {
     let flushes = [FLUSH; FLUSHES];
     words::put_words(list, &flushes);
     rooms::paste(list, 0, lines::part(s, from, s.len()));

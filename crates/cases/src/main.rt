@@ -5,6 +5,7 @@ mod asking;
 mod compare;
 mod decoded;
 mod frames;
+mod indexes;
 mod lines;
 mod lists;
 mod making;
@@ -42,7 +43,22 @@ fn framed(line: &[u8], s: &[u8]) {
     }
 }
 
-// Verbs of texts, and else those of frames.
+// Verbs of indexes, and else those of frames.
+fn indexed(line: &[u8], s: &[u8]) {
+    if lines::begins(line, b"index ") {
+        indexes::build(s);
+    } else if lines::begins(line, b"grow ") {
+        indexes::grow(s);
+    } else if lines::begins(line, b"find ") {
+        indexes::find(s);
+    } else if lines::begins(line, b"jump ") {
+        indexes::jump(s);
+    } else {
+        framed(line, s);
+    }
+}
+
+// Verbs of texts, and else those of indexes.
 fn translated(line: &[u8], s: &[u8]) {
     if lines::begins(line, b"assemble ") {
         texts::assemble(s);
@@ -53,7 +69,7 @@ fn translated(line: &[u8], s: &[u8]) {
     } else if lines::begins(line, b"line ") {
         texts::line(s);
     } else {
-        framed(line, s);
+        indexed(line, s);
     }
 }
 
