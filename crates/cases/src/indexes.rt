@@ -141,11 +141,11 @@ pub fn build(s: &[u8]) {
     answer(indexed, &room);
 }
 
-// Builds the index of a list in the whole of a room, from the offsets of an earlier one. Says what came of it, and answers how many offsets it has.
-fn extended(list: &[u8], old: &[u16], room: &mut [u16]) -> usize {
+// Builds the index of a list in the whole of a room, from the offsets of an earlier one, and says what came of it.
+fn extended(list: &[u8], old: &[u16], room: &mut [u16]) -> Indexed {
     let indexed = index::build(list, old, room);
     answer(indexed, room);
-    index::count_of(indexed)
+    indexed
 }
 
 // The same offsets?
@@ -163,17 +163,17 @@ fn same(a: &[u16], b: &[u16]) -> bool {
     a.len() == b.len()
 }
 
-// The index of a list's front, the one that it is extended to for the whole list, and whether that is the one built anew.
+// The index of a list's front, the one that it is extended to for the whole list, and whether building anew has the same code and leaves the same room.
 fn grown(early: &[u8], list: &[u8]) {
     let mut old = [FILL; ROOM];
     let mut room = [FILL; ROOM];
     let mut anew = [FILL; ROOM];
     let none = [0u16; 0];
-    let before = extended(early, &none, &mut old);
+    let before = index::count_of(extended(early, &none, &mut old));
     say::text(b"; ");
-    let after = extended(list, front(&old, before), &mut room);
-    let count = index::count_of(index::build(list, &none, &mut anew));
-    if same(front(&room, after), front(&anew, count)) {
+    let code = index::code_of(extended(list, front(&old, before), &mut room));
+    let expected = index::code_of(index::build(list, &none, &mut anew));
+    if code == expected && same(&room, &anew) {
         say::text(b"; same");
     } else {
         say::text(b"; differs");
