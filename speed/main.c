@@ -9,6 +9,7 @@
 
 enum { ROUNDS = 40, LEAST = 2000000 /* ns of one round of one side */, LIST = 4096, RECORD = 12, ROOM = 1024 * RECORD, ROOMS = 2 * ROOM };
 enum { UNTOUCHED = 0xa5 /* what a room is filled with beforehand */ };
+enum { INDEX = 512 /* the most offsets of an index */, PLACES = 640 /* of a room for one; more than it ever needs */, ASKED = 400 /* the number looked up */ };
 enum { FRAMES = 8, HOUSEKEEPING = 18, APART = 32 /* from one housekeeping frame to the next: what lies between may be left over */ };
 
 static uint8_t commands[256], frames[256];
@@ -17,6 +18,18 @@ static uint8_t commands[256], frames[256];
 struct list {
     uint8_t bytes[ROOM];
     size_t size;
+};
+
+/* Offsets of an index, or what is handed in as such. */
+struct offsets {
+    uint16_t at[PLACES];
+    size_t count;
+};
+
+/* What one side leaves its bytes and offsets in, with room for those of two lists. */
+struct room {
+    uint8_t bytes[ROOMS];
+    uint16_t offsets[2 * PLACES];
 };
 
 static double now(void)
@@ -298,17 +311,27 @@ static void bare_line(struct typed *t, unsigned i)
 }
 
 /* One job on both sides. */
-enum which { READ, WRITE, FRAME_READ, FRAME_WRITE, HOUSEKEEPING_READ, HOUSEKEEPING_WRITE, RUNS, SECONDS, ASSEMBLE, LISTING };
+enum which { READ, WRITE, FRAME_READ, FRAME_WRITE, HOUSEKEEPING_READ, HOUSEKEEPING_WRITE, RUNS, SECONDS, ASSEMBLE, LISTING, INDEXING, LOOKING_UP, SHOWING };
 
 struct job {
     const char *name;
     enum which which;
-    struct list kit, pupil; /* of assembling and listing: the first list and the second; of housekeeping: the frames */
-    uint32_t each;          /* of housekeeping: bytes of each frame, or of its room */
+    struct list kit, pupil; /* of assembling, listing and indexing: the first list and the second; of housekeeping: the frames; of looking up: the list */
+    struct offsets old;     /* of indexing: those of the earlier index of the first list, none of the second; of looking up: the index */
+    uint32_t each;          /* of housekeeping: bytes of each frame, or of its room; of indexing: places of the room for one list */
+    uint32_t number;        /* of looking up and showing: the command's */
+    uint8_t sender;         /* of showing */
     uint32_t units;         /* what one time counts for: commands of a run or of lists, seconds */
     double aim;
     double ours, plain; /* nanoseconds a unit, best of the rounds */
 };
+
+/* Builds the index of these bytes from an earlier one. */
+static uint64_t indexed(bool ours, const struct list *l, const struct offsets *old, uint16_t *room, uint32_t fits, uint32_t times)
+{
+    return ours ? timing_index(l->bytes, l->size, old->at, old->count, room, fits, times)
+                : plain_index(l->bytes, l->size, old->at, old->count, room, fits, times);
+}
 
 /* Assembles or lists these bytes. */
 static uint64_t translate(enum which which, bool ours, const struct list *l, uint8_t *room, uint32_t times)
@@ -319,8 +342,10 @@ static uint64_t translate(enum which which, bool ours, const struct list *l, uin
     return ours ? timing_list(l->bytes, l->size, room, ROOM, times) : plain_list(l->bytes, l->size, room, ROOM, times);
 }
 
-static uint64_t do_job(const struct job *j, bool ours, uint8_t *room, uint32_t times)
+static uint64_t do_job(const struct job *j, bool ours, struct room *r, uint32_t times)
 {
+    static const struct offsets none;
+    uint8_t *room = r->bytes;
     switch (j->which) {
     case READ:
         return ours ? timing_read(commands, 256, times) : plain_read(commands, 256, times);
@@ -342,6 +367,16 @@ static uint64_t do_job(const struct job *j, bool ours, uint8_t *room, uint32_t t
     case SECONDS:
         return ours ? timing_seconds(j->kit.bytes, j->kit.size, room, ROOM, j->units, times)
                     : plain_seconds(j->kit.bytes, j->kit.size, room, ROOM, j->units, times);
+    case INDEXING: {
+        uint64_t sum = indexed(ours, &j->kit, &j->old, r->offsets, j->each, times);
+        return j->pupil.size == 0 ? sum : sum * 31 + indexed(ours, &j->pupil, &none, r->offsets + PLACES, j->each, times);
+    }
+    case LOOKING_UP:
+        return ours ? timing_look_up(j->kit.bytes, j->kit.size, j->old.at, j->old.count, j->number, times)
+                    : plain_look_up(j->kit.bytes, j->kit.size, j->old.at, j->old.count, j->number, times);
+    case SHOWING:
+        return ours ? timing_shown(j->kit.bytes, j->kit.size, j->pupil.bytes, j->pupil.size, j->sender, j->number, times)
+                    : plain_shown(j->kit.bytes, j->kit.size, j->pupil.bytes, j->pupil.size, j->sender, j->number, times);
     default: {
         uint64_t sum = translate(j->which, ours, &j->kit, room, times);
         return j->pupil.size == 0 ? sum : sum * 31 + translate(j->which, ours, &j->pupil, room + ROOM, times);
@@ -350,7 +385,7 @@ static uint64_t do_job(const struct job *j, bool ours, uint8_t *room, uint32_t t
 }
 
 /* As many times as take this side long enough for the clock. */
-static uint32_t enough(const struct job *j, bool ours, uint8_t *room)
+static uint32_t enough(const struct job *j, bool ours, struct room *room)
 {
     uint32_t times = 16;
     for (;;) {
@@ -361,7 +396,7 @@ static uint32_t enough(const struct job *j, bool ours, uint8_t *room)
     }
 }
 
-static double timed(const struct job *j, bool ours, uint8_t *room, uint32_t times)
+static double timed(const struct job *j, bool ours, struct room *room, uint32_t times)
 {
     double start = now();
     do_job(j, ours, room, times);
@@ -373,15 +408,15 @@ static void best_of(double *best, double time)
     if (time < *best) *best = time;
 }
 
-/* What each side leaves its bytes in. */
-static uint8_t rooms[2][ROOMS];
+/* One of each side. */
+static struct room rooms[2];
 
 /* Both sides must give the same. */
 static void compare(const struct job *j)
 {
     memset(rooms, UNTOUCHED, sizeof rooms);
-    uint64_t plain = do_job(j, false, rooms[0], 100), ours = do_job(j, true, rooms[1], 100);
-    if (plain != ours || memcmp(rooms[0], rooms[1], ROOMS) != 0) {
+    uint64_t plain = do_job(j, false, &rooms[0], 100), ours = do_job(j, true, &rooms[1], 100);
+    if (plain != ours || memcmp(&rooms[0], &rooms[1], sizeof rooms[0]) != 0) {
         printf("%s: the two sides differ (%016llx, %016llx)\n", j->name, (unsigned long long)plain, (unsigned long long)ours);
         exit(1);
     }
@@ -391,12 +426,12 @@ static void compare(const struct job *j)
 static void measure(struct job *j)
 {
     compare(j);
-    uint32_t plain_times = enough(j, false, rooms[0]), our_times = enough(j, true, rooms[1]);
+    uint32_t plain_times = enough(j, false, &rooms[0]), our_times = enough(j, true, &rooms[1]);
     j->ours = j->plain = 1e30;
     for (int round = 0; round < ROUNDS; round++) {
-        if (round % 2 == 0) best_of(&j->plain, timed(j, false, rooms[0], plain_times));
-        best_of(&j->ours, timed(j, true, rooms[1], our_times));
-        if (round % 2 == 1) best_of(&j->plain, timed(j, false, rooms[0], plain_times));
+        if (round % 2 == 0) best_of(&j->plain, timed(j, false, &rooms[0], plain_times));
+        best_of(&j->ours, timed(j, true, &rooms[1], our_times));
+        if (round % 2 == 1) best_of(&j->plain, timed(j, false, &rooms[0], plain_times));
     }
 }
 
@@ -455,13 +490,13 @@ static void compare_failing_runs(void)
 /* What one job makes is what the other takes, and no byte more. */
 static void check_made(const struct job *j, const struct job *other)
 {
-    static uint8_t room[ROOMS], wanted[ROOMS];
-    memset(room, UNTOUCHED, ROOMS);
-    memset(wanted, UNTOUCHED, ROOMS);
-    memcpy(wanted, other->kit.bytes, other->kit.size);
-    memcpy(wanted + ROOM, other->pupil.bytes, other->pupil.size);
-    do_job(j, false, room, 1);
-    if (memcmp(room, wanted, ROOMS) != 0) {
+    static struct room room, wanted;
+    memset(&room, UNTOUCHED, sizeof room);
+    memset(&wanted, UNTOUCHED, sizeof wanted);
+    memcpy(wanted.bytes, other->kit.bytes, other->kit.size);
+    memcpy(wanted.bytes + ROOM, other->pupil.bytes, other->pupil.size);
+    do_job(j, false, &room, 1);
+    if (memcmp(&room, &wanted, sizeof room) != 0) {
         printf("%u %s: made something else than was typed\n", j->units, j->name);
         exit(1);
     }
@@ -487,14 +522,107 @@ static void typed_jobs(struct job *assembling, struct job *listing, const struct
     check_made(listing, assembling);
 }
 
+/* So many bare commands, as one list. */
+static struct list bare_list(unsigned n)
+{
+    static struct typed t;
+    memset(&t, 0, sizeof t);
+    for (unsigned i = 0; i < n; i++) bare_line(&t, i);
+    return t.raw;
+}
+
+/* The offsets of so many commands that begin so many bytes apart. */
+static struct offsets evenly(unsigned count, unsigned apart)
+{
+    struct offsets o = { .count = count };
+    for (unsigned i = 0; i < count; i++) o.at[i] = (uint16_t)(apart * i);
+    return o;
+}
+
+/* Indexing a list from an earlier index, with so many places of room. */
+static struct job index_job(const char *name, const struct list *l, const struct offsets *old, uint32_t places, unsigned units)
+{
+    return (struct job){ .name = name, .which = INDEXING, .kit = *l, .old = *old, .each = places, .units = units, .aim = 1.5 };
+}
+
+/* Looking a command up by an index. */
+static struct job look_up_job(const char *name, const struct list *l, const struct offsets *index, uint32_t number)
+{
+    return (struct job){ .name = name, .which = LOOKING_UP, .kit = *l, .old = *index, .number = number, .units = 1, .aim = 1.5 };
+}
+
+/* Showing a command by the walk. */
+static struct job shown_job(const char *name, const struct list *kit, const struct list *pupil, uint8_t sender, uint32_t number)
+{
+    return (struct job){ .name = name, .which = SHOWING, .kit = *kit, .pupil = *pupil, .sender = sender, .number = number, .units = 1, .aim = 1.5 };
+}
+
+/* Commands of 2 to 32 words, told apart by their bytes; their sums are wrong, which no walk asks. */
+static struct list numbered_list(void)
+{
+    struct list l = { .size = 0 };
+    for (unsigned i = 0; l.size + 4 * (i % 31 + 2) <= LIST; i++) {
+        uint8_t *at = l.bytes + l.size;
+        unsigned words = i % 31 + 2;
+        put32(at, 0x015a0000u | (i % 2 ? 0x8000u : 0) | words);
+        for (unsigned k = 1; k < words; k++) put32(at + 4 * k, (i + 1) * 0x01000193u + k * 0x9e3779b9u);
+        l.size += 4 * words;
+    }
+    return l;
+}
+
+/* What plain C makes of an index must be this, in that much room, and no place more. */
+static void check_index(const struct job *j, const struct offsets *wanted)
+{
+    static struct room room;
+    memset(&room, UNTOUCHED, sizeof room);
+    do_job(j, false, &room, 1);
+    for (unsigned i = 0; i < PLACES; i++) {
+        if (room.offsets[i] != (i < wanted->count ? wanted->at[i] : UNTOUCHED * 0x101u)) {
+            printf("%s: the index is another\n", j->name);
+            exit(1);
+        }
+    }
+}
+
+/* Offsets that are unfit in each way, one and two at once, and fit ones, on lists of several lengths. */
+static void compare_offsets(const struct list *l)
+{
+    static const uint16_t odd[] = { 0, 1, 7, 8, 9, 16, 4087, 4088, 4095, 4096, 4097, 65535 };
+    static const unsigned counts[] = { 0, 1, 2, 3, 64, 511, 512, 513, PLACES };
+    static const size_t sizes[] = { 0, 1, 7, 8, 9, 24, 512, 4087, 4088, 4089, 4095, 4096, 4097, 5000 };
+    static const uint32_t places[] = { 0, 1, 63, 64, 65, 511, 512, 513, PLACES };
+    enum { ODD = sizeof odd / sizeof odd[0], COUNTS = sizeof counts / sizeof counts[0], SIZES = sizeof sizes / sizeof sizes[0] };
+    enum { ROOMY = sizeof places / sizeof places[0] };
+    static struct job j;
+    for (unsigned c = 0; c < COUNTS; c++) {
+        for (unsigned apart = 0; apart <= 9; apart++) {
+            struct offsets old = evenly(counts[c], apart);
+            for (unsigned o = 0; o <= 3 * ODD; o++) {
+                static const unsigned quarters[] = { 0, 2, 4 }; /* the first offset, one in the middle, the last */
+                size_t k = o < 3 * ODD && old.count > 0 ? (old.count - 1) * quarters[o / ODD] / 4 : 0;
+                uint16_t was = old.at[k];
+                if (o < 3 * ODD) old.at[k] = odd[o % ODD];
+                for (unsigned n = 0; n < SIZES; n++) {
+                    struct list cut = *l;
+                    cut.size = sizes[n];
+                    j = index_job("indexing from all sorts of offsets", &cut, &old, places[(c + o + n) % ROOMY], 1);
+                    compare(&j);
+                }
+                old.at[k] = was;
+            }
+        }
+    }
+}
+
 /* How many records of a run have code 0. */
 static unsigned accepted(const struct job *j)
 {
-    static uint8_t room[ROOM];
+    static struct room room;
     unsigned n = 0;
-    memset(room, 0xff, ROOM);
-    do_job(j, false, room, 1);
-    for (unsigned i = 0; i < j->units; i++) n += room[RECORD * i + 1] == 0;
+    memset(&room, 0xff, sizeof room);
+    do_job(j, false, &room, 1);
+    for (unsigned i = 0; i < j->units; i++) n += room.bytes[RECORD * i + 1] == 0;
     return n;
 }
 

@@ -1,8 +1,8 @@
 /* The bench of 01-scope.md in plain C, written from that page: the state is one struct that is passed by pointer and changed in place.
    It does the same jobs as crates/timing and folds their results in the same way. Typed lists are assembled and listed by the rules of request Q-1;
    the macros share one pool of entries by those of request Q-9, a second hands over a group of them by those of request Q-2, no picture is asked for
-   with the power off by those of request Q-3, a number out of range is told with its limits by those of request Q-6, and the numbers of the latest run
-   are kept, and sent as housekeeping, by those of request Q-11. */
+   with the power off by those of request Q-3, a number out of range is told with its limits by those of request Q-6, the numbers of the latest run
+   are kept, and sent as housekeeping, by those of request Q-11, and a command is looked up through an index by those of request Q-14. */
 #include "plain.h"
 #include <stdbool.h>
 #include <string.h>
@@ -11,6 +11,7 @@ enum { MACROS = 8, POOL = 192, NONE = 255, LONGEST = 600, GROUP = 64, FOR_EVER =
 enum { LAST_PIXEL = 1023, LAST_ALGORITHM = 2, LAST_GOAL = 0x447fffff /* the bits of the largest single below 1024 */ };
 enum { RECEIVED_TAG = 0x12, FAILED_TAG = 0x13, CODE_TAG = 0x14, FREE_TAG = 0x15, HEAD = 2 /* a tag and a length, before each value */ };
 enum { RECEIVED_AT = 0, FAILED_AT = 6, CODE_AT = 12, FREE_AT = 15, HOUSEKEEPING = 18 /* bytes of a whole housekeeping frame */ };
+enum { KIT = 1, PUPIL = 2, INDEX = 512 /* the most offsets of an index */ };
 enum { TEXT = 32768, DIGITS = 5, LISTED = 8192 /* above the 7,846 bytes that a list's text has at most */ };
 
 enum kind {
@@ -966,6 +967,81 @@ static struct placed listed(const uint8_t *list, size_t size, uint8_t *room, siz
     return placed(0, 0, made);
 }
 
+/* A command as a part of its list. */
+struct part {
+    const uint8_t *start;
+    size_t size;
+};
+
+/* How many bytes the command at the front takes: all of them where codes 1 to 3 end the list. */
+static size_t reach_of(const uint8_t *s, size_t size)
+{
+    if (size < 8) return size;
+    size_t length = get16(s + 2) & 0x7fff;
+    if (length < 2 || length > 32 || 4 * length > size) return size;
+    return 4 * length;
+}
+
+/* Do these offsets number 512 at most, start at 0, rise and lie in a list of so many bytes? None do. */
+static bool offsets_fit(const uint16_t *offsets, size_t count, size_t size)
+{
+    if (count == 0) return true;
+    if (count > INDEX || offsets[0] != 0) return false;
+    for (size_t i = 1; i < count; i++) {
+        if (offsets[i] <= offsets[i - 1]) return false;
+    }
+    return offsets[count - 1] < size; /* the highest, as they rise */
+}
+
+/* 20, 54, 24. All earlier offsets but the last stay, and the list is walked on from that one. What is found is put beside the room, so that a refusal
+   leaves the room alone. */
+static uint8_t build_index(const uint8_t *list, size_t size, const uint16_t *old, size_t olds, uint16_t *room, size_t fits, size_t *count)
+{
+    uint16_t found[INDEX]; /* no walk has more: every command but the last takes 8 bytes at least */
+    size_t kept = olds == 0 ? 0 : olds - 1, n = 0;
+    *count = 0;
+    if (size > LIST) return 20;
+    if (!offsets_fit(old, olds, size)) return 54;
+    for (size_t at = olds == 0 ? 0 : old[kept]; at < size; at += reach_of(list + at, size - at)) found[n++] = (uint16_t)at;
+    if (kept + n > INDEX || kept + n > fits) return 24;
+    memcpy(room, old, kept * sizeof *room);
+    memcpy(room + kept, found, n * sizeof *room);
+    *count = kept + n;
+    return 0;
+}
+
+static struct part part_at(const uint8_t *list, size_t size, size_t at)
+{
+    if (at >= size) return (struct part){ list, 0 };
+    return (struct part){ list + at, reach_of(list + at, size - at) };
+}
+
+/* The command of a number, from 1, through an index of its list; empty where there is none. */
+static struct part look_up(const uint8_t *list, size_t size, const uint16_t *offsets, size_t count, uint32_t number)
+{
+    if (size > LIST || number == 0 || number > count) return (struct part){ list, 0 };
+    return part_at(list, size, offsets[number - 1]);
+}
+
+/* The command of a number by a walk from the list's start. */
+static struct part walked_to(const uint8_t *list, size_t size, uint32_t number)
+{
+    size_t at = 0;
+    if (number == 0) return (struct part){ list, 0 };
+    for (uint32_t n = 1; n < number && at < size; n++) at += reach_of(list + at, size - at);
+    return part_at(list, size, at);
+}
+
+/* The command of a sender's record; empty where there is none. */
+static struct part shown(const uint8_t *kit, size_t kits, const uint8_t *pupil, size_t pupils, uint8_t sender, uint32_t number)
+{
+    if (kits <= LIST && pupils <= LIST) {
+        if (sender == KIT) return walked_to(kit, kits, number);
+        if (sender == PUPIL) return walked_to(pupil, pupils, number);
+    }
+    return (struct part){ kit, 0 };
+}
+
 /* The measured jobs, as in crates/timing. */
 
 static uint64_t mixed(uint64_t sum, uint64_t value)
@@ -1199,5 +1275,39 @@ uint64_t plain_list(const uint8_t *list, size_t size, uint8_t *room, size_t fits
         struct placed p = listed(list, size, room, fits, &stray);
         sum = with_placed(sum, p, &stray);
     }
+    return sum;
+}
+
+uint64_t plain_index(const uint8_t *list, size_t size, const uint16_t *old, size_t olds, uint16_t *room, size_t fits, uint32_t times)
+{
+    uint64_t sum = 0;
+    for (uint32_t i = 0; i < times; i++) {
+        size_t count;
+        uint8_t code = build_index(list, size, old, olds, room, fits, &count);
+        sum = mixed(mixed(sum, code), count);
+    }
+    for (size_t i = 0; i < fits; i++) sum = mixed(sum, room[i]);
+    return sum;
+}
+
+/* Its size and one byte of it, every four turns the next of sixteen. */
+static uint64_t with_part(uint64_t sum, struct part p, uint32_t turn)
+{
+    size_t at = turn / 4 % 16;
+    sum = mixed(sum, p.size);
+    return at < p.size ? mixed(sum, p.start[at]) : sum;
+}
+
+uint64_t plain_look_up(const uint8_t *list, size_t size, const uint16_t *offsets, size_t count, uint32_t number, uint32_t times)
+{
+    uint64_t sum = 0;
+    for (uint32_t i = 0; i < times; i++) sum = with_part(sum, look_up(list, size, offsets, count, number ^ i % 4), i);
+    return sum;
+}
+
+uint64_t plain_shown(const uint8_t *kit, size_t kits, const uint8_t *pupil, size_t pupils, uint8_t sender, uint32_t number, uint32_t times)
+{
+    uint64_t sum = 0;
+    for (uint32_t i = 0; i < times; i++) sum = with_part(sum, shown(kit, kits, pupil, pupils, sender, number ^ i % 4), i);
     return sum;
 }

@@ -5,6 +5,7 @@ use bench::Housekept;
 use bench::Status;
 use frame::Frame;
 use housekeeping::Housekeeping;
+use index::Indexed;
 use store::Group;
 use text::Translated;
 use wire::Command;
@@ -16,6 +17,8 @@ const COMMANDS: usize = 16;
 const COMMAND: usize = 16;
 // The frames that are read or written in turn.
 const FRAMES: usize = 8;
+// How many numbers are asked for in turn: one and its neighbours.
+const NEIGHBOURS: u32 = 4;
 // How far apart housekeeping frames begin, so that there are bytes behind each which may be left over.
 const APART: usize = 32;
 
@@ -485,6 +488,89 @@ pub extern "C" fn timing_list(raw: &[u8], room: &mut [u8], times: u32) -> u64 {
     let mut i: u32 = 0;
     while i < times {
         sum = with_translated(sum, text::list_text(raw, room));
+        i += 1;
+    }
+    sum
+}
+
+// The code of an index, and how many offsets it has.
+fn with_indexed(sum: u64, indexed: Indexed) -> u64 {
+    let code = mixed(sum, index::code_of(indexed) as u64);
+    mixed(code, index::count_of(indexed) as u64)
+}
+
+fn with_offset(sum: u64, offset: u16) -> u64 {
+    mixed(sum, offset as u64)
+}
+
+fn with_offsets(sum: u64, offsets: &[u16]) -> u64 {
+    let mut sum = sum;
+    let mut i: usize = 0;
+    while i < offsets.len() {
+        sum = with_offset(sum, offsets[i]);
+        i += 1;
+    }
+    sum
+}
+
+// Builds the index of a list so many times, from the same offsets of an earlier one, to the same place of the room; then every offset in the room.
+#[no_mangle]
+pub extern "C" fn timing_index(list: &[u8], old: &[u16], room: &mut [u16], times: u32) -> u64 {
+    let mut sum: u64 = 0;
+    let mut i: u32 = 0;
+    while i < times {
+        sum = with_indexed(sum, index::build(list, old, room));
+        i += 1;
+    }
+    with_offsets(sum, room)
+}
+
+fn with_byte(sum: u64, byte: u8) -> u64 {
+    mixed(sum, byte as u64)
+}
+
+// How many bytes a part has, and one of them: all would take longer than to look the part up. Every four turns it is the next of sixteen.
+fn with_part(sum: u64, part: &[u8], turn: u32) -> u64 {
+    let size = mixed(sum, part.len() as u64);
+    let at = (turn / NEIGHBOURS) as usize % COMMAND;
+    if at < part.len() {
+        return with_byte(size, part[at]);
+    }
+    size
+}
+
+// The number to ask for: in turn this one and its neighbours, which differ from it in the last two bits.
+fn number_of(number: u32, turn: u32) -> u32 {
+    number ^ (turn % NEIGHBOURS)
+}
+
+// Looks a command up through these offsets so many times.
+#[no_mangle]
+pub extern "C" fn timing_look_up(list: &[u8], offsets: &[u16], number: u32, times: u32) -> u64 {
+    let mut sum: u64 = 0;
+    let mut i: u32 = 0;
+    while i < times {
+        let part = index::look_up(list, offsets, number_of(number, i));
+        sum = with_part(sum, part, i);
+        i += 1;
+    }
+    sum
+}
+
+// Shows a command so many times, by a walk from the start of its sender's list.
+#[no_mangle]
+pub extern "C" fn timing_shown<'a>(
+    kit: &'a [u8],
+    pupil: &'a [u8],
+    sender: u8,
+    number: u32,
+    times: u32,
+) -> u64 {
+    let mut sum: u64 = 0;
+    let mut i: u32 = 0;
+    while i < times {
+        let part = walk::shown(kit, pupil, sender, number_of(number, i));
+        sum = with_part(sum, part, i);
         i += 1;
     }
     sum
