@@ -571,48 +571,89 @@ static struct list numbered_list(void)
     return l;
 }
 
-/* What plain C makes of an index must be this, in that much room, and no place more. */
-static void check_index(const struct job *j, const struct offsets *wanted)
+/* The index of a list as plain C makes it from an earlier one: the list's own, whatever is handed in. */
+static struct offsets made_index(const struct list *l, const struct offsets *old)
 {
     static struct room room;
+    static struct job j;
+    struct offsets made = { .count = 0 };
+    j = index_job("an index", l, old, INDEX, 1);
     memset(&room, UNTOUCHED, sizeof room);
-    do_job(j, false, &room, 1);
-    for (unsigned i = 0; i < PLACES; i++) {
-        if (room.offsets[i] != (i < wanted->count ? wanted->at[i] : UNTOUCHED * 0x101u)) {
-            printf("%s: the index is another\n", j->name);
-            exit(1);
+    do_job(&j, false, &room, 1);
+    while (made.count < INDEX && room.offsets[made.count] != UNTOUCHED * 0x101) {
+        made.at[made.count] = room.offsets[made.count];
+        made.count++;
+    }
+    return made;
+}
+
+/* One offset of some is another: the first, one in the middle or the last. */
+static struct offsets with_other(struct offsets o, unsigned half, uint16_t value)
+{
+    if (o.count > 0) o.at[(o.count - 1) * half / 2] = value;
+    return o;
+}
+
+/* Indexes that are refused, and some that are not: 20, 54 of every sort, 24 in little room and for more than 512 offsets. */
+static void compare_refused_indexes(void)
+{
+    static const struct { unsigned count, apart; } rows[] = { { 0, 0 }, { 1, 8 }, { 2, 8 }, { 2, 0 }, { 64, 8 }, { 511, 8 }, { 512, 8 }, { 512, 1 }, { 513, 7 } };
+    static const uint16_t others[] = { 0, 1, 8, 4095, 4096, 65535 };
+    static const size_t sizes[] = { 0, 7, 8, 9, 4088, 4095, 4096, 4097 };
+    static const uint32_t places[] = { 0, 2, 511, 512, PLACES };
+    static struct job j;
+    struct list l = bare_list(INDEX);
+    for (unsigned row = 0; row < sizeof rows / sizeof rows[0]; row++) {
+        struct offsets old = evenly(rows[row].count, rows[row].apart);
+        for (unsigned i = 0; i < sizeof sizes / sizeof sizes[0] * sizeof places / sizeof places[0]; i++) {
+            uint32_t fits = places[i % (sizeof places / sizeof places[0])];
+            l.size = sizes[i / (sizeof places / sizeof places[0])];
+            j = index_job("indexing from some offsets", &l, &old, fits, 1);
+            compare(&j);
+            for (unsigned k = 0; k < 3 * sizeof others / sizeof others[0]; k++) {
+                j.old = with_other(old, k % 3, others[k / 3]);
+                compare(&j);
+            }
         }
     }
 }
 
-/* Offsets that are unfit in each way, one and two at once, and fit ones, on lists of several lengths. */
-static void compare_offsets(const struct list *l)
+/* The index of a list that is cut off anywhere, and of the whole list from that index; both sides must show every command that it has, and none else. */
+static void compare_indexes(struct list l)
 {
-    static const uint16_t odd[] = { 0, 1, 7, 8, 9, 16, 4087, 4088, 4095, 4096, 4097, 65535 };
-    static const unsigned counts[] = { 0, 1, 2, 3, 64, 511, 512, 513, PLACES };
-    static const size_t sizes[] = { 0, 1, 7, 8, 9, 24, 512, 4087, 4088, 4089, 4095, 4096, 4097, 5000 };
-    static const uint32_t places[] = { 0, 1, 63, 64, 65, 511, 512, 513, PLACES };
-    enum { ODD = sizeof odd / sizeof odd[0], COUNTS = sizeof counts / sizeof counts[0], SIZES = sizeof sizes / sizeof sizes[0] };
-    enum { ROOMY = sizeof places / sizeof places[0] };
+    static const struct offsets none;
+    static const struct list empty;
     static struct job j;
-    for (unsigned c = 0; c < COUNTS; c++) {
-        for (unsigned apart = 0; apart <= 9; apart++) {
-            struct offsets old = evenly(counts[c], apart);
-            for (unsigned o = 0; o <= 3 * ODD; o++) {
-                static const unsigned quarters[] = { 0, 2, 4 }; /* the first offset, one in the middle, the last */
-                size_t k = o < 3 * ODD && old.count > 0 ? (old.count - 1) * quarters[o / ODD] / 4 : 0;
-                uint16_t was = old.at[k];
-                if (o < 3 * ODD) old.at[k] = odd[o % ODD];
-                for (unsigned n = 0; n < SIZES; n++) {
-                    struct list cut = *l;
-                    cut.size = sizes[n];
-                    j = index_job("indexing from all sorts of offsets", &cut, &old, places[(c + o + n) % ROOMY], 1);
-                    compare(&j);
-                }
-                old.at[k] = was;
-            }
+    struct offsets whole = made_index(&l, &none);
+    struct list cut = l;
+    for (cut.size = 0; cut.size <= l.size; cut.size += 37) {
+        struct offsets old = made_index(&cut, &none), grown = made_index(&l, &old);
+        if (memcmp(&grown, &whole, sizeof whole) != 0) {
+            printf("an index of %u commands was extended to another\n", (unsigned)old.count);
+            exit(1);
+        }
+        j = index_job("the index of a list that is cut off", &cut, &none, INDEX, 1);
+        compare(&j);
+        j = index_job("the index of a list that has grown", &l, &old, INDEX, 1);
+        compare(&j);
+        j = look_up_job("looking up by the index of a longer list", &cut, &whole, (uint32_t)(cut.size / 8));
+        compare(&j);
+    }
+    for (uint32_t number = 0; number <= INDEX + 8; number += 4) {
+        j = look_up_job("looking up", &l, &whole, number);
+        compare(&j);
+        for (uint8_t sender = 0; sender <= 3; sender++) {
+            j = sender == 1 ? shown_job("showing", &l, &empty, sender, number) : shown_job("showing", &empty, &l, sender, number);
+            compare(&j);
         }
     }
+    l.size = LIST + 1;
+    j = look_up_job("looking up in a list that is too long", &l, &whole, 1);
+    compare(&j);
+    j = shown_job("showing from a list that is too long", &l, &empty, 1, 1);
+    compare(&j);
+    j = shown_job("showing beside a list that is too long", &l, &cut, 2, 1);
+    compare(&j);
 }
 
 /* How many records of a run have code 0. */
@@ -654,7 +695,22 @@ static void print_growth(struct job *jobs, int n, const char *of, const char *he
     }
 }
 
-enum { ALL = 16, SIZES = 3 };
+enum { ALL = 21, SIZES = 3 };
+
+/* The lists of two listing jobs are indexed, the latter's also from its first 511 commands; and one command of the latter is shown, by the index and
+   without. */
+static void index_jobs(struct job *jobs, const struct job *mixed_lists, const struct job *bare_list)
+{
+    static const struct offsets none;
+    static const struct list empty;
+    struct offsets index = evenly(INDEX, 8), shorter = evenly(INDEX - 1, 8);
+    jobs[0] = index_job("indexing 512 mixed commands", &mixed_lists->kit, &none, INDEX, INDEX);
+    jobs[0].pupil = mixed_lists->pupil;
+    jobs[1] = index_job("indexing 512 bare commands", &bare_list->kit, &none, INDEX, INDEX);
+    jobs[2] = index_job("extending an index from 511 to 512", &bare_list->kit, &shorter, INDEX, 1);
+    jobs[3] = look_up_job("looking up number 400 of 512", &bare_list->kit, &index, ASKED);
+    jobs[4] = shown_job("showing number 400 of 512", &empty, &bare_list->kit, 2, ASKED);
+}
 
 static void make_jobs(struct job *jobs)
 {
@@ -680,6 +736,7 @@ static void make_jobs(struct job *jobs)
     jobs[13].name = "listing 512 mixed commands";
     jobs[14].name = "assembling 512 bare commands";
     jobs[15].name = "listing 512 bare commands";
+    index_jobs(jobs + 16, &jobs[13], &jobs[15]);
 }
 
 int main(int argc, char **argv)
@@ -692,6 +749,9 @@ int main(int argc, char **argv)
     make_jobs(jobs);
     compare_refused_frames();
     compare_failing_runs();
+    compare_refused_indexes();
+    compare_indexes(bare_list(INDEX));
+    compare_indexes(numbered_list());
     for (int i = 0; i < SIZES; i++) {
         runs[i] = run_job("plain commands", plain_command, sizes[i]);
         runs[SIZES + i] = run_job("macro commands", macro_command, sizes[i]);

@@ -1290,10 +1290,10 @@ uint64_t plain_index(const uint8_t *list, size_t size, const uint16_t *old, size
     return sum;
 }
 
-/* Its size and one byte of it, every four turns the next of sixteen. */
+/* Its size and one byte of it, in turn each of the first sixteen. */
 static uint64_t with_part(uint64_t sum, struct part p, uint32_t turn)
 {
-    size_t at = turn / 4 % 16;
+    size_t at = turn % 16;
     sum = mixed(sum, p.size);
     return at < p.size ? mixed(sum, p.start[at]) : sum;
 }
@@ -1301,13 +1301,13 @@ static uint64_t with_part(uint64_t sum, struct part p, uint32_t turn)
 uint64_t plain_look_up(const uint8_t *list, size_t size, const uint16_t *offsets, size_t count, uint32_t number, uint32_t times)
 {
     uint64_t sum = 0;
-    for (uint32_t i = 0; i < times; i++) sum = with_part(sum, look_up(list, size, offsets, count, number ^ i % 4), i);
+    for (uint32_t i = 0; i < times; i++) sum = with_part(sum, look_up(list, size, offsets, count, number ^ (uint32_t)(sum % 4)), i);
     return sum;
 }
 
 uint64_t plain_shown(const uint8_t *kit, size_t kits, const uint8_t *pupil, size_t pupils, uint8_t sender, uint32_t number, uint32_t times)
 {
     uint64_t sum = 0;
-    for (uint32_t i = 0; i < times; i++) sum = with_part(sum, shown(kit, kits, pupil, pupils, sender, number ^ i % 4), i);
+    for (uint32_t i = 0; i < times; i++) sum = with_part(sum, shown(kit, kits, pupil, pupils, sender, number ^ (uint32_t)(sum % 4)), i);
     return sum;
 }

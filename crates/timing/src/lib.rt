@@ -17,8 +17,8 @@ const COMMANDS: usize = 16;
 const COMMAND: usize = 16;
 // The frames that are read or written in turn.
 const FRAMES: usize = 8;
-// How many numbers are asked for in turn: one and its neighbours.
-const NEIGHBOURS: u32 = 4;
+// How many numbers are asked for: one and its neighbours.
+const NEIGHBOURS: u64 = 4;
 // How far apart housekeeping frames begin, so that there are bytes behind each which may be left over.
 const APART: usize = 32;
 
@@ -529,19 +529,20 @@ fn with_byte(sum: u64, byte: u8) -> u64 {
     mixed(sum, byte as u64)
 }
 
-// How many bytes a part has, and one of them: all would take longer than to look the part up. Every four turns it is the next of sixteen.
+// How many bytes a part has, and one of them, in turn each of the first sixteen: all would take longer than to look the part up.
 fn with_part(sum: u64, part: &[u8], turn: u32) -> u64 {
     let size = mixed(sum, part.len() as u64);
-    let at = (turn / NEIGHBOURS) as usize % COMMAND;
+    let at = (turn as usize) % COMMAND;
     if at < part.len() {
         return with_byte(size, part[at]);
     }
     size
 }
 
-// The number to ask for: in turn this one and its neighbours, which differ from it in the last two bits.
-fn number_of(number: u32, turn: u32) -> u32 {
-    number ^ (turn % NEIGHBOURS)
+// The number to ask for: this one or a neighbour, which differs from it in the last two bits. It hangs on what came out so far, so that none can be
+// asked for before the one before it is answered.
+fn number_of(number: u32, sum: u64) -> u32 {
+    number ^ (sum % NEIGHBOURS) as u32
 }
 
 // Looks a command up through these offsets so many times.
@@ -550,7 +551,7 @@ pub extern "C" fn timing_look_up(list: &[u8], offsets: &[u16], number: u32, time
     let mut sum: u64 = 0;
     let mut i: u32 = 0;
     while i < times {
-        let part = index::look_up(list, offsets, number_of(number, i));
+        let part = index::look_up(list, offsets, number_of(number, sum));
         sum = with_part(sum, part, i);
         i += 1;
     }
@@ -569,7 +570,7 @@ pub extern "C" fn timing_shown<'a>(
     let mut sum: u64 = 0;
     let mut i: u32 = 0;
     while i < times {
-        let part = walk::shown(kit, pupil, sender, number_of(number, i));
+        let part = walk::shown(kit, pupil, sender, number_of(number, sum));
         sum = with_part(sum, part, i);
         i += 1;
     }
