@@ -9,7 +9,7 @@
 
 enum { ROUNDS = 40, LEAST = 2000000 /* ns of one round of one side */, LIST = 4096, RECORD = 12, ROOM = 1024 * RECORD, ROOMS = 2 * ROOM };
 enum { UNTOUCHED = 0xa5 /* what a room is filled with beforehand */ };
-enum { INDEX = 512 /* the most offsets of an index */, PLACES = 640 /* of a room for one; more than it ever needs */, ASKED = 400 /* the number looked up */ };
+enum { INDEX = 512 /* the most offsets of an index */, PLACES = 640 /* of a room for one, more than it needs */, ASKED = 400 /* the number looked up */ };
 enum { FRAMES = 8, HOUSEKEEPING = 18, APART = 32 /* from one housekeeping frame to the next: what lies between may be left over */ };
 
 static uint8_t commands[256], frames[256];
@@ -311,15 +311,17 @@ static void bare_line(struct typed *t, unsigned i)
 }
 
 /* One job on both sides. */
-enum which { READ, WRITE, FRAME_READ, FRAME_WRITE, HOUSEKEEPING_READ, HOUSEKEEPING_WRITE, RUNS, SECONDS, ASSEMBLE, LISTING, INDEXING, LOOKING_UP, SHOWING };
+enum which {
+    READ, WRITE, FRAME_READ, FRAME_WRITE, HOUSEKEEPING_READ, HOUSEKEEPING_WRITE, RUNS, SECONDS, ASSEMBLE, LISTING, INDEXING, LOOKING_UP, SHOWING
+};
 
 struct job {
     const char *name;
     enum which which;
-    struct list kit, pupil; /* of assembling, listing and indexing: the first list and the second; of housekeeping: the frames; of looking up: the list */
-    struct offsets old;     /* of indexing: those of the earlier index of the first list, none of the second; of looking up: the index */
+    struct list kit, pupil; /* of assembling, listing and indexing: the first list and the second; of housekeeping: the frames; of a look-up: the list */
+    struct offsets old;     /* of indexing: an earlier index of the first list; of a look-up: the index */
     uint32_t each;          /* of housekeeping: bytes of each frame, or of its room; of indexing: places of the room for one list */
-    uint32_t number;        /* of looking up and showing: the command's */
+    uint32_t number;        /* of a look-up, and of showing: the command's */
     uint8_t sender;         /* of showing */
     uint32_t units;         /* what one time counts for: commands of a run or of lists, seconds */
     double aim;
@@ -571,7 +573,7 @@ static struct list numbered_list(void)
     return l;
 }
 
-/* The index of a list as plain C makes it from an earlier one: the list's own, whatever is handed in. */
+/* The index of a list as plain C makes it from an earlier one; none where that is refused. */
 static struct offsets made_index(const struct list *l, const struct offsets *old)
 {
     static struct room room;
@@ -594,35 +596,44 @@ static struct offsets with_other(struct offsets o, unsigned half, uint16_t value
     return o;
 }
 
-/* Indexes that are refused, and some that are not: 20, 54 of every sort, 24 in little room and for more than 512 offsets. */
-static void compare_refused_indexes(void)
+/* The index of a list from these offsets, and from these with one changed. */
+static void compare_from(const struct list *l, const struct offsets *old, uint32_t fits)
 {
-    static const struct { unsigned count, apart; } rows[] = { { 0, 0 }, { 1, 8 }, { 2, 8 }, { 2, 0 }, { 64, 8 }, { 511, 8 }, { 512, 8 }, { 512, 1 }, { 513, 7 } };
-    static const uint16_t others[] = { 0, 1, 8, 4095, 4096, 65535 };
-    static const size_t sizes[] = { 0, 7, 8, 9, 4088, 4095, 4096, 4097 };
-    static const uint32_t places[] = { 0, 2, 511, 512, PLACES };
+    static const uint16_t others[] = { 0, 1, 8, 4080, 4095, 4096, 65535 };
     static struct job j;
-    struct list l = bare_list(INDEX);
-    for (unsigned row = 0; row < sizeof rows / sizeof rows[0]; row++) {
-        struct offsets old = evenly(rows[row].count, rows[row].apart);
-        for (unsigned i = 0; i < sizeof sizes / sizeof sizes[0] * sizeof places / sizeof places[0]; i++) {
-            uint32_t fits = places[i % (sizeof places / sizeof places[0])];
-            l.size = sizes[i / (sizeof places / sizeof places[0])];
-            j = index_job("indexing from some offsets", &l, &old, fits, 1);
+    j = index_job("indexing from some offsets", l, old, fits, 1);
+    compare(&j);
+    for (unsigned i = 0; i < sizeof others / sizeof others[0]; i++) {
+        for (unsigned half = 0; half <= 2; half++) {
+            j.old = with_other(*old, half, others[i]);
             compare(&j);
-            for (unsigned k = 0; k < 3 * sizeof others / sizeof others[0]; k++) {
-                j.old = with_other(old, k % 3, others[k / 3]);
-                compare(&j);
-            }
         }
     }
 }
 
-/* The index of a list that is cut off anywhere, and of the whole list from that index; both sides must show every command that it has, and none else. */
-static void compare_indexes(struct list l)
+/* Indexes that are refused, and some that are not: 20, 54 of every sort, 24 in little room and for more than 512 offsets. */
+static void compare_refused_indexes(void)
+{
+    static const struct { unsigned count, apart; } olds[] = {
+        { 0, 0 }, { 1, 8 }, { 2, 8 }, { 2, 0 }, { 64, 8 }, { 511, 8 }, { 512, 8 }, { 512, 1 }, { 513, 7 }
+    };
+    static const size_t sizes[] = { 0, 7, 8, 9, 4088, 4095, 4096, 4097 };
+    static const uint32_t places[] = { 0, 2, 511, 512, PLACES };
+    struct list l = bare_list(INDEX);
+    for (unsigned i = 0; i < sizeof olds / sizeof olds[0]; i++) {
+        struct offsets old = evenly(olds[i].count, olds[i].apart);
+        for (unsigned k = 0; k < sizeof sizes / sizeof sizes[0]; k++) {
+            l.size = sizes[k];
+            for (unsigned p = 0; p < sizeof places / sizeof places[0]; p++) compare_from(&l, &old, places[p]);
+        }
+    }
+}
+
+/* The index of a list that is cut off anywhere, and of the whole list from that one, which must be its own; then its commands by the index and by the
+   walk, of this list and of the other, of either sender and of none, and numbers that there are not. */
+static void compare_indexes(struct list l, const struct list *other)
 {
     static const struct offsets none;
-    static const struct list empty;
     static struct job j;
     struct offsets whole = made_index(&l, &none);
     struct list cut = l;
@@ -643,17 +654,19 @@ static void compare_indexes(struct list l)
         j = look_up_job("looking up", &l, &whole, number);
         compare(&j);
         for (uint8_t sender = 0; sender <= 3; sender++) {
-            j = sender == 1 ? shown_job("showing", &l, &empty, sender, number) : shown_job("showing", &empty, &l, sender, number);
+            j = shown_job("showing", &l, other, sender, number);
             compare(&j);
         }
     }
     l.size = LIST + 1;
     j = look_up_job("looking up in a list that is too long", &l, &whole, 1);
     compare(&j);
-    j = shown_job("showing from a list that is too long", &l, &empty, 1, 1);
-    compare(&j);
-    j = shown_job("showing beside a list that is too long", &l, &cut, 2, 1);
-    compare(&j);
+    for (uint8_t sender = 1; sender <= 2; sender++) {
+        j = shown_job("showing with a kit's list that is too long", &l, other, sender, 1);
+        compare(&j);
+        j = shown_job("showing with a pupil's list that is too long", other, &l, sender, 1);
+        compare(&j);
+    }
 }
 
 /* How many records of a run have code 0. */
@@ -697,19 +710,21 @@ static void print_growth(struct job *jobs, int n, const char *of, const char *he
 
 enum { ALL = 21, SIZES = 3 };
 
-/* The lists of two listing jobs are indexed, the latter's also from its first 511 commands; and one command of the latter is shown, by the index and
-   without. */
-static void index_jobs(struct job *jobs, const struct job *mixed_lists, const struct job *bare_list)
+/* The lists of two listing jobs are indexed, the latter also from its first 511 commands; and one command of the latter is looked up, and shown by the
+   walk. */
+static void index_jobs(struct job *jobs, const struct job *mixed_lists, const struct job *bare_lists)
 {
     static const struct offsets none;
     static const struct list empty;
-    struct offsets index = evenly(INDEX, 8), shorter = evenly(INDEX - 1, 8);
+    const struct list *l = &bare_lists->kit;
+    struct offsets index = made_index(l, &none), shorter = index;
+    shorter.count = INDEX - 1;
     jobs[0] = index_job("indexing 512 mixed commands", &mixed_lists->kit, &none, INDEX, INDEX);
     jobs[0].pupil = mixed_lists->pupil;
-    jobs[1] = index_job("indexing 512 bare commands", &bare_list->kit, &none, INDEX, INDEX);
-    jobs[2] = index_job("extending an index from 511 to 512", &bare_list->kit, &shorter, INDEX, 1);
-    jobs[3] = look_up_job("looking up number 400 of 512", &bare_list->kit, &index, ASKED);
-    jobs[4] = shown_job("showing number 400 of 512", &empty, &bare_list->kit, 2, ASKED);
+    jobs[1] = index_job("indexing 512 bare commands", l, &none, INDEX, INDEX);
+    jobs[2] = index_job("extending an index from 511 to 512", l, &shorter, INDEX, 1);
+    jobs[3] = look_up_job("looking up number 400 of 512", l, &index, ASKED);
+    jobs[4] = shown_job("showing number 400 of 512", &empty, l, 2, ASKED);
 }
 
 static void make_jobs(struct job *jobs)
@@ -750,8 +765,9 @@ int main(int argc, char **argv)
     compare_refused_frames();
     compare_failing_runs();
     compare_refused_indexes();
-    compare_indexes(bare_list(INDEX));
-    compare_indexes(numbered_list());
+    struct list bares = bare_list(INDEX), others = numbered_list();
+    compare_indexes(bares, &others);
+    compare_indexes(others, &bares);
     for (int i = 0; i < SIZES; i++) {
         runs[i] = run_job("plain commands", plain_command, sizes[i]);
         runs[SIZES + i] = run_job("macro commands", macro_command, sizes[i]);
