@@ -5,8 +5,8 @@ use mathlib.Core.List.{List, [], _∷_, _++_, append-assoc, append-nil}
 use native.Mathlib.Omega.{arith}
 use native.Mathlib.Nat.{add-zero}
 use native.Mathlib.Numerals.{add-one}
-use lib.ListN.{length, getD, set, take, drop, length-append, length-drop, drop-of-length-le, List·getD-eq-default, List·getD-append}
-use lib.Seq.{sets, sets-eq, take-suc, drop-drop, take-all, take-at, drop-at, length-take-le}
+use lib.ListN.{length, getD, set, take, drop, length-append, length-drop, length-set, drop-of-length-le, List·getD-eq-default, List·getD-append}
+use lib.Seq.{sets, sets-eq, take-suc, drop-drop, take-all, take-at, drop-at, take-length, length-take-le}
 use borrow.Author.Tests.{le-leb, lt-leb}
 use borrow.Rule.Slice.PartMut.{putMid}
 use Rattle.words.specs.BigEndian.{byteAt, halfAt, wordAt, wordBytes, bytesOf, written}
@@ -57,7 +57,7 @@ sets-append room p (x ∷ xs) ys =
     let place : p + suc (length xs) ≡ suc p + length xs = omega arith in
     rw place (sets-append (set room p x) (suc p) xs ys)
 
-pub sets-next : (bytes room : List ℕ) (p i at : ℕ) → at ≡ p + i → i < length bytes
+sets-next : (bytes room : List ℕ) (p i at : ℕ) → at ≡ p + i → i < length bytes
     → set (sets room p (take i bytes)) at (getD bytes i 0) ≡ sets room p (take (i + 1) bytes)
 sets-next bytes room p i at is more =
     let place : p + length (take i bytes) ≡ at = omega (arith, length-take-le i bytes (omega arith)) in
@@ -67,6 +67,31 @@ pub sets-written : (bytes room : List ℕ) → length bytes ≤ length room → 
 sets-written bytes room fits =
     let front : 0 + length bytes ≡ length bytes = omega arith in
     sets-eq bytes room 0 (omega arith) ∙ rw (front, with-room bytes room fits)
+
+-- A loop that stores bytes, or other numbers, one at a time: the first i of them are stored from place p on.
+pub record Storing (bytes room₀ room : List ℕ) (p i : ℕ) : Type 0 where
+  pub within : i ≤ length bytes
+  pub fits : p + length bytes ≤ length room₀
+  pub same : length room ≡ length room₀
+  pub stored : room ≡ sets room₀ p (take i bytes)
+
+pub none-stored : (bytes room : List ℕ) (p : ℕ) → p + length bytes ≤ length room → Storing bytes room room p 0
+none-stored bytes room p fits = record { within = omega arith; fits = fits; same = refl; stored = refl }
+
+module _ (bytes room₀ room : List ℕ) (p i : ℕ) (so-far : Storing bytes room₀ room p i) where
+  pub one-stored : (at : ℕ) → at ≡ p + i → i < length bytes → Storing bytes room₀ (set room at (getD bytes i 0)) p (i + 1)
+  one-stored at is more =
+      record {
+        within = omega arith;
+        fits = so-far .fits;
+        same = length-set room at (getD bytes i 0) ∙ so-far .same;
+        stored = ap (λ l. set l at (getD bytes i 0)) (so-far .stored) ∙ sets-next bytes room₀ p i at is more;
+      }
+
+  pub all-stored : length bytes ≤ i → room ≡ sets room₀ p bytes
+  all-stored end =
+      let all : i ≡ length bytes = omega (arith, so-far .within) in
+      so-far .stored ∙ rw (all, take-length bytes)
 
 -- What a writer does to the part of a room that begins at p, said of the whole room.
 pub part-written : (p : ℕ) (bytes room part : List ℕ) → p ≤ length room
