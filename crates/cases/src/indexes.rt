@@ -5,18 +5,15 @@ use super::lines;
 use super::lists;
 use super::say;
 use index::Indexed;
-
-// What every place of a room is before it is lent.
-const FILL: u16 = 0xaaaa;
+use script::offsets;
+use script::offsets::FILL;
+use script::offsets::SIZE;
 
 // The places of a room, some more than an index has; a line that asks for more gets these. A line that hands in more offsets hands in none.
 const ROOM: usize = index::MOST + 8;
 
 // The most offsets that are printed.
 const OFFSETS: usize = 16;
-
-// The bytes of an offset.
-const OFFSET: usize = 2;
 
 // Where the offsets begin in a line of `index`, and of `find`; the list's bytes come behind them.
 const INDEX: usize = 6;
@@ -29,14 +26,8 @@ const GROW: usize = 4;
 const JUMP: usize = 8;
 
 // Takes the offsets that begin at a place of the line.
-fn take(offsets: &mut [u16], s: &[u8], from: usize) {
-    let mut at = from;
-    let mut i: usize = 0;
-    while i < offsets.len() {
-        offsets[i] = words::half_at(s, at);
-        at = std::num::wrapping_add_usize(at, OFFSET);
-        i += 1;
-    }
+fn take(room: &mut [u16], s: &[u8], from: usize) {
+    offsets::read(lines::part(s, from, s.len()), room);
 }
 
 // So many offsets at the front of a room; none where it has fewer.
@@ -87,21 +78,9 @@ fn printed(offsets: &[u16]) {
     numbers(offsets, offsets.len() - OFFSETS);
 }
 
-// Where the first place stands, from one on, that is no longer as it was; the end or beyond where all are.
-fn first_changed(room: &[u16], from: usize) -> usize {
-    let mut i = from;
-    while i < room.len() {
-        if room[i] != FILL {
-            return i;
-        }
-        i += 1;
-    }
-    i
-}
-
 // Are all places from one on still as they were?
 fn rest(room: &[u16], from: usize) {
-    let changed = first_changed(room, from);
+    let changed = offsets::first_changed(room, from);
     if changed < room.len() {
         say::field(b", changed place ", changed as u64);
     } else {
@@ -135,7 +114,7 @@ pub fn build(s: &[u8]) {
     let size = words::half_at(s, 0) as usize;
     let count = words::half_at(s, 2) as usize;
     take(&mut old, s, INDEX);
-    lists::fill(&mut list, s, INDEX + count * OFFSET);
+    lists::fill(&mut list, s, INDEX + count * SIZE);
     let list = lines::part(&list, 0, words::half_at(s, 4) as usize);
     let indexed = lent(list, front(&old, count), &mut room, size);
     answer(indexed, &room);
@@ -203,7 +182,7 @@ pub fn find(s: &[u8]) {
     let mut list = [0u8; lists::LIST];
     let count = words::half_at(s, 4) as usize;
     take(&mut offsets, s, FIND);
-    lists::fill(&mut list, s, FIND + count * OFFSET);
+    lists::fill(&mut list, s, FIND + count * SIZE);
     let list = lines::part(&list, 0, words::half_at(s, 6) as usize);
     command(index::look_up(list, front(&offsets, count), words::word_at(s, 0)));
 }

@@ -4,10 +4,8 @@ use super::lines;
 use super::say;
 use frame::Frame;
 use housekeeping::Housekeeping;
+pub use script::rooms::FILL;
 use wire::Command;
-
-// What every byte of a room is before it is lent.
-pub const FILL: u8 = 0xaa;
 
 // Sets a byte; nothing where the room has no such place.
 pub fn set(room: &mut [u8], at: usize, value: u8) {
@@ -25,21 +23,9 @@ pub fn paste(room: &mut [u8], at: usize, s: &[u8]) {
     }
 }
 
-// Where the first byte stands, from a place on, that is not aa; the end or beyond where all are.
-fn first_changed(room: &[u8], from: usize) -> usize {
-    let mut i = from;
-    while i < room.len() {
-        if room[i] != FILL {
-            return i;
-        }
-        i += 1;
-    }
-    i
-}
-
 // Are all bytes from a place on still aa?
 pub fn rest(room: &[u8], from: usize) {
-    let changed = first_changed(room, from);
+    let changed = script::rooms::first_changed(room, from);
     if changed < room.len() {
         say::field(b", changed byte ", changed as u64);
     } else {

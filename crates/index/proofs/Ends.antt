@@ -14,7 +14,7 @@ use Rattle.index.specs.Index.{startsFrom, lastOf, indexOf}
 use Rattle.index.specs.Answers.{unfit, buildCode, answerOf, builtAs, roomAfter}
 
 -- The offsets that stay, and how many an index has.
-pub length-kept : (old : List ℕ) → length (take (length old - 1) old) ≡ length old - 1
+length-kept : (old : List ℕ) → length (take (length old - 1) old) ≡ length old - 1
 length-kept old = length-take-le (length old - 1) old (omega arith)
 
 pub length-index : (s old : List ℕ) → length (indexOf s old) ≡ length old - 1 + length (startsFrom s (lastOf old))

@@ -70,19 +70,22 @@ module _ (kit pupil : List ℕ) (number : ℕ) (pupil-short : length pupil ≤ 4
   unfolding shownOf offsetOf
   kit-alike = rw (le-ltb 4096 (length pupil) pupil-short, or-false (ltb 4096 (length kit))) (found-is kit number (ltb 4096 (length kit)) refl)
 
+-- A part that is found and a part of the same list that was promised with these bytes at this place are one part.
+same-part : (list : RefT (List ℕ)) (number : ℕ) (bytes : List ℕ) (offset : ℕ) (a b : RefT (List ℕ))
+    → (foundOf (list .now) (built (list .now)) number ≡ bytes) × (foundAt (list .now) (built (list .now)) number ≡ offset)
+    → found.Promise list (built (list .now)) number a → (b .now ≡ bytes) × Placed list b offset → (a .now ≡ b .now) × (a .ptr ≡ b .ptr)
+same-part list number bytes offset a b alike p q =
+    (p .0 ∙ alike .0 ∙ sym (q .0), one-place list a b offset (subst (Placed list a) (alike .1) (p .1)) (q .1))
+
 -- What `look_up` answers through the index of a sender's list, and what `shown` answers for that sender's number, have the same bytes and the same place.
 pub jump-pupil : (kit pupil : RefT (List ℕ)) (number : ℕ) → length (kit .now) ≤ 4096 → (a b : RefT (List ℕ))
     → found.Promise pupil (built (pupil .now)) number a → shown.Promise kit pupil 2 number b → (a .now ≡ b .now) × (a .ptr ≡ b .ptr)
 jump-pupil kit pupil number kit-short a b p q =
-    let alike = pupil-alike (kit .now) (pupil .now) number kit-short in (
-      p .0 ∙ alike .0 ∙ sym (q .0),
-      one-place pupil a b (offsetOf (kit .now) (pupil .now) 2 number) (subst (Placed pupil a) (alike .1) (p .1)) (q .1),
-    )
+    same-part pupil number (shownOf (kit .now) (pupil .now) 2 number) (offsetOf (kit .now) (pupil .now) 2 number) a b
+    (pupil-alike (kit .now) (pupil .now) number kit-short) p q
 
 pub jump-kit : (kit pupil : RefT (List ℕ)) (number : ℕ) → length (pupil .now) ≤ 4096 → (a b : RefT (List ℕ))
     → found.Promise kit (built (kit .now)) number a → shown.Promise kit pupil 1 number b → (a .now ≡ b .now) × (a .ptr ≡ b .ptr)
 jump-kit kit pupil number pupil-short a b p q =
-    let alike = kit-alike (kit .now) (pupil .now) number pupil-short in (
-      p .0 ∙ alike .0 ∙ sym (q .0),
-      one-place kit a b (offsetOf (kit .now) (pupil .now) 1 number) (subst (Placed kit a) (alike .1) (p .1)) (q .1),
-    )
+    same-part kit number (shownOf (kit .now) (pupil .now) 1 number) (offsetOf (kit .now) (pupil .now) 1 number) a b
+    (kit-alike (kit .now) (pupil .now) number pupil-short) p q

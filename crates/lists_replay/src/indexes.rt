@@ -2,6 +2,8 @@
 // as it was; 04 looks a command up through one.
 use super::offsets;
 use script::Place;
+use script::offsets::FILL;
+use script::offsets::read;
 use script::output;
 use script::rooms;
 
@@ -26,8 +28,8 @@ pub fn build(place: Place, s: &[u8], out: &mut [u8]) -> Place {
         return place.bad(out);
     }
     let mut handed = [0u16; offsets::MOST];
-    let mut room = [offsets::FILL; offsets::MOST];
-    let count = offsets::read(script::bytes(s, old), &mut handed);
+    let mut room = [FILL; offsets::MOST];
+    let count = read(script::bytes(s, old), &mut handed);
     let length = rooms::capped(words::half_at(s, length.from), offsets::MOST);
     let bytes = script::bytes(s, list);
     let used = built_lines(
@@ -49,7 +51,7 @@ pub fn look_up(place: Place, s: &[u8], out: &mut [u8]) -> Place {
         return place.bad(out);
     }
     let mut handed = [0u16; offsets::MOST];
-    let count = offsets::read(script::bytes(s, old), &mut handed);
+    let count = read(script::bytes(s, old), &mut handed);
     let asked = words::word_at(s, number.from);
     let bytes = index::look_up(script::bytes(s, list), &handed[..count], asked);
     let used = output::bytes_line(out, place.used, b"found", bytes);

@@ -5,11 +5,18 @@ use mathlib.Core.Bool.{cond}
 use lib.ListN.{drop}
 use lib.Dec.{eqb}
 
--- How many bytes at the front are the filling, 0xaa.
-unfoldable pub filled : List ℕ → ℕ
-filled [] = 0
-filled (b ∷ bs) = cond (eqb b 170) (suc (filled bs)) 0
+-- How many places at the front have the filling.
+unfoldable pub filled : ℕ → List ℕ → ℕ
+filled fill [] = 0
+filled fill (b ∷ bs) = cond (eqb b fill) (suc (filled fill bs)) 0
 
--- The first place from this one on that has another byte; behind the room where none has.
-abbrev pub firstChanged : List ℕ → ℕ → ℕ
-firstChanged room from = from + filled (drop from room)
+-- The first place from this one on that has something else; behind the room where none has.
+abbrev pub firstChanged : ℕ → List ℕ → ℕ → ℕ
+firstChanged fill room from = from + filled fill (drop from room)
+
+-- What a room of bytes, 0xaa, and a room of offsets, 0xaaaa, is filled with.
+abbrev pub byteFill : ℕ
+byteFill = 170
+
+abbrev pub offsetFill : ℕ
+offsetFill = 43690

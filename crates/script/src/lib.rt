@@ -2,6 +2,7 @@
 // they answer: reading the script, stretches of it, where a program stands in it, lent rooms, and the transcript.
 ghost use Rattle.io.specs.Counts.{Counts};
 
+pub mod offsets;
 pub mod output;
 mod place;
 pub mod rooms;

@@ -1,18 +1,21 @@
--- `first_changed` is safe and ends: each read is behind the loop's test, and what is left of the room falls.
+-- `first_changed` meets its contract: the first change from the loop's place on is the first from where it began.
 use Prim.Native.Nat.{_-_}
+use mathlib.Core.Path.{_≡_, refl, _∙_}
 use borrow.Author.Needs.{needs}
 use lib.ListN.{length}
-use Rattle.cases.proofs.indexes.first_changed.Statement.{statement}
-use Rattle.cases.proofs.indexes.first_changed.Tie as tie
+use Rattle.script.specs.Rooms.{offsetFill, firstChanged}
+use Rattle.script.proofs.Changes.{changed-here, changed-further, changed-nowhere}
+use Rattle.script.proofs.offsets.first_changed.Statement.{statement}
+use Rattle.script.proofs.offsets.first_changed.Tie as tie
 
 abbrev Inv-loop : tie.InvT-loop
-Inv-loop room from i₀ i = Unit {0}
+Inv-loop room from i₀ i = firstChanged offsetFill room i ≡ firstChanged offsetFill room from
 
 abbrev μ-loop : tie.MeasureT-loop
 μ-loop room from i₀ i = length room - i
 
 loop-holds : tie.Need-loop-holds Inv-loop μ-loop
-loop-holds c = search needs
+loop-holds c = refl
 
 mul-if1 : tie.Need-mul-if1 Inv-loop μ-loop
 mul-if1 c = search needs
@@ -21,7 +24,7 @@ shared-slice-read-if1 : tie.Need-shared-slice-read-if1 Inv-loop μ-loop
 shared-slice-read-if1 c = search needs
 
 returns : tie.Need-returns Inv-loop μ-loop
-returns c = search needs
+returns c = changed-here _ _ _ (c .before .before .loop-test .taken) (c .if1 .taken) ∙ c .before .before .before .loop .inv
 
 add-i : tie.Need-add-i Inv-loop μ-loop
 add-i c = search needs
@@ -30,10 +33,10 @@ loop-less : tie.Need-loop-less Inv-loop μ-loop
 loop-less c = search needs
 
 loop-again : tie.Need-loop-again Inv-loop μ-loop
-loop-again c = search needs
+loop-again c = changed-further _ _ _ (c .before .before .loop-test .taken) (c .if1 .left) ∙ c .before .before .before .loop .inv
 
 returns-2 : tie.Need-returns-2 Inv-loop μ-loop
-returns-2 c = search needs
+returns-2 c = changed-nowhere _ _ _ (c .loop-test .left) ∙ c .before .loop .inv
 
 pub first-changed-spec : {M : Type 1} → statement M
 first-changed-spec =

@@ -5,8 +5,8 @@ use native.Mathlib.Omega.{arith}
 use lib.ListN.{length, length-set}
 use lib.Seq.{length-take-le}
 use borrow.Author.Needs.{needs}
-use Rattle.lists_replay.proofs.offsets.read.Statement.{statement}
-use Rattle.lists_replay.proofs.offsets.read.Tie as tie
+use Rattle.script.proofs.offsets.read.Statement.{statement}
+use Rattle.script.proofs.offsets.read.Tie as tie
 
 abbrev Inv-loop : tie.InvT-loop
 Inv-loop bytes room₀ count₀ room count = (count ≤ length room) × (length room ≡ length room₀)
