@@ -1,6 +1,5 @@
 // One line: codes 30, 32, 31, then 8 to 10.
 ghost use mathlib.Core.Path.{_≡_};
-ghost use Rattle.wire.specs.Table.{argumentsOf};
 ghost use Rattle.text.specs.Line.{firstOf, secondOf, lineOf, answerLine};
 ghost use Rattle.text.specs.Split.{space};
 ghost use Rattle.text.specs.Steps.{runOf, upToThree, judgedLine, knownLine, typedLine};
@@ -19,19 +18,6 @@ pub enum Line {
     Blank,
     Typed(wire::Command),
     Bad(Fault),
-}
-
-// How many arguments a layout has.
-fn arguments_of(layout: wire::Layout) -> usize
-    ensures { λ r. ⌜ r ≡ argumentsOf layout ⌝ }
-{
-    match layout {
-        wire::Layout::Bare => 0,
-        wire::Layout::Byte => 1,
-        wire::Layout::Half => 1,
-        wire::Layout::Halves => 2,
-        wire::Layout::Singles => 2,
-    }
 }
 
 // The first argument, by its layout.
@@ -102,7 +88,7 @@ fn known_line(form: wire::Form, flag: bool, body: &[u8], name: usize) -> Line
         one.len() < arguments.len(),
         two.len() < others.len(),
     );
-    if spaces != arguments_of(layout) {
+    if spaces != wire::arguments_of(layout) {
         return Line::Bad(Fault::WrongCount);
     }
     match first_of(layout, one) {

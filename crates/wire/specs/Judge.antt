@@ -93,6 +93,10 @@ isAlways FlagRule.Always = true
 abbrev pub flagChecks : FlagRule → Bool → List Check
 flagChecks rule flag = 9 when (isNever rule && flag) ∷ 10 when (isAlways rule && not flag) ∷ []
 
+-- What they tell of a flag by itself.
+abbrev pub flagRefused : FlagRule → Bool → Told
+flagRefused rule flag = plain (firstOf (flagChecks rule flag))
+
 -- Rows 8 to 10, on a flag and two numbers, by a row of the table.
 abbrev pub rowChecks : Row → Bool → ℕ → ℕ → List Check
 rowChecks row flag first second = 8 when not (eqb (firstBad row first second) 0) ∷ flagChecks (row .flags) flag

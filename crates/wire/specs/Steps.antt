@@ -8,18 +8,13 @@ use lib.Dec.{eqb}
 use Rattle.words.specs.BigEndian.{hasRoom}
 use Rattle.words.specs.Codes.{firstOf}
 use Rattle.wire.specs.declared.table.Form.{Form}
-use Rattle.wire.specs.declared.table.FlagRule.{FlagRule}
 use Rattle.wire.specs.declared.kinds.Command.{Command}
 use Rattle.wire.specs.declared.judging.Told.{Told}
 use Rattle.wire.specs.declared.decoding.Reach.{Reach}
 use Rattle.wire.specs.Table.{ruleOf}
-use Rattle.wire.specs.Judge.{plain, toldOf, flagChecks}
+use Rattle.wire.specs.Judge.{plain, toldOf}
 use Rattle.wire.specs.Read.{Answer, answerFor, partsAs, commandAs, formChecks, decodeChecks, formIn, wholeChecks, partsIn, commandIn, lengthOf, reachCode}
 use Rattle.wire.specs.Write.{commandBytes, Wrote}
-
--- `judge_flag`: rows 9 and 10 alone.
-abbrev pub flagRefused : FlagRule → Bool → Told
-flagRefused rule flag = plain (firstOf (flagChecks rule flag))
 
 -- `reach_of`: rows 1 to 3, the code, and how many words the command has where it is 0.
 pub record Reached : Type 0 where

@@ -1,7 +1,6 @@
 // What the wire refuses, and the rules on a decoded command: codes 8, 9 and 10, in that order.
 ghost use mathlib.Core.Path.{_≡_};
-ghost use Rattle.wire.specs.Judge.{strayWith, toldWith, plain, toldOf, toldJudged, inLimits, firstBad, named, judgedBy, judged};
-ghost use Rattle.wire.specs.Steps.{flagRefused};
+ghost use Rattle.wire.specs.Judge.{strayWith, toldWith, plain, toldOf, toldJudged, inLimits, firstBad, named, flagRefused, judgedBy, judged};
 use super::kinds::Command;
 use super::kinds::parts_of;
 use super::table::FlagRule;
@@ -90,7 +89,8 @@ pub fn told_of(refusal: Refusal) -> Told
 // The bits of minus zero, which a goal may have though they lie above its limits.
 const MINUS_ZERO: u32 = 0x8000_0000;
 
-fn in_limits(layout: Layout, low: u32, high: u32, value: u32) -> bool
+// Is a value within its limits?
+pub fn in_limits(layout: Layout, low: u32, high: u32, value: u32) -> bool
     ensures { λ r. ⌜ r ≡ inLimits layout low high value ⌝ }
 {
     if let Layout::Singles = layout {
@@ -130,7 +130,7 @@ fn named(row: Row, first: u32, second: u32, par: u8) -> Stray
 }
 
 // The flag against its rule: codes 9 and 10.
-fn judge_flag(rule: FlagRule, flag: bool) -> Judged
+pub fn judge_flag(rule: FlagRule, flag: bool) -> Judged
     ensures { λ r. ⌜ toldJudged r ≡ flagRefused rule flag ⌝ }
 {
     match rule {

@@ -1,6 +1,6 @@
 // The table of commands: a row for each of the fifteen forms, and the way from an opcode to its form and length.
 ghost use mathlib.Core.Path.{_≡_};
-ghost use Rattle.wire.specs.Table.{rowWith, rowOf, ruleOf};
+ghost use Rattle.wire.specs.Table.{rowWith, rowOf, argumentsOf, ruleOf};
 
 // The fifteen commands without their arguments, in the order of the table.
 pub enum Form {
@@ -171,6 +171,19 @@ pub fn row_of(form: Form) -> Row
         Form::Wait => wait_row(),
         Form::Stop => bare_row(0x7f05, FlagRule::Never),
         Form::Clear => bare_row(0x7f06, FlagRule::Never),
+    }
+}
+
+// How many arguments a layout has.
+pub fn arguments_of(layout: Layout) -> usize
+    ensures { λ r. ⌜ r ≡ argumentsOf layout ⌝ }
+{
+    match layout {
+        Layout::Bare => 0,
+        Layout::Byte => 1,
+        Layout::Half => 1,
+        Layout::Halves => 2,
+        Layout::Singles => 2,
     }
 }
 
