@@ -33,7 +33,12 @@ fn put_printed(room: &mut [u8], typed: &[u8]) -> Output
     ensures { λ r. ⌜ now (room .exit) ≡ printed (now (typed .entry)) ++ drop (length (printed (now (typed .entry)))) (now (room .entry)) ⌝ }
 {
     let made = text::assemble(typed, room);
-    listing::put_outcome(room, Numbered::Lines, made)
+    listing::put_outcome(
+        room,
+        Numbered::Lines,
+        text::finding_of(made),
+        text::bytes_of(made),
+    )
 }
 
 fn main() {

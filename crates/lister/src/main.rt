@@ -36,7 +36,12 @@ fn put_printed(room: &mut [u8], raw: &[u8]) -> Output
     ensures { λ r. ⌜ now (room .exit) ≡ printed (now (raw .entry)) ++ drop (length (printed (now (raw .entry)))) (now (room .entry)) ⌝ }
 {
     let made = text::list_text(raw, room);
-    listing::put_outcome(room, Numbered::Commands, made)
+    listing::put_outcome(
+        room,
+        Numbered::Commands,
+        text::finding_of(made),
+        text::bytes_of(made),
+    )
 }
 
 fn main() {

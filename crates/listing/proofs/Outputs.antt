@@ -12,12 +12,16 @@ use Rattle.words.specs.BigEndian.{hasRoom, written}
 use Rattle.words.specs.Codes.{_when_}
 use Rattle.words.proofs.Laws.{with-room}
 use Rattle.text.specs.declared.findings.Finding.{Finding}
-use Rattle.text.specs.Findings.{whole, firstFound, Outcome, outcomeFor}
+use Rattle.text.specs.Findings.{whole, firstFound, Outcome, outcome, outcomeFor}
 use Rattle.text.proofs.Found.{Silent, found-append, found-silent, silent-found}
 use Rattle.listing.specs.declared.refusals.Numbered.{Numbered}
 use Rattle.listing.specs.declared.refusals.Output.{Output}
 use Rattle.listing.specs.Answer.{answerFor}
 use Rattle.listing.specs.Refusal.{refusalLine, refusalRoom, printedFor, outputFor, roomFor}
+
+-- An outcome is what was found and how many bytes there are.
+pub outcome-of : (m : Outcome) (found : Finding) (bytes : ℕ) → found ≡ m .found → bytes ≡ m .bytes → outcome found bytes ≡ m
+outcome-of m found bytes is-found is-bytes = ap (λ f. outcome f bytes) is-found ∙ ap (outcome (m .found)) is-bytes
 
 -- By what was found, where the line has room too.
 module _ (numbered : Numbered) (found : Finding) (bytes room : List ℕ)

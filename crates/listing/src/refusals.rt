@@ -4,13 +4,12 @@ ghost use mathlib.Core.Path.{_≡_};
 ghost use lib.ListN.{length};
 ghost use lib.Seq.{sets};
 ghost use Rattle.words.specs.BigEndian.{written};
-ghost use Rattle.text.specs.Findings.{translatedOf};
+ghost use Rattle.text.specs.Findings.{outcome};
 ghost use Rattle.listing.specs.Answer.{answerOf, answerFor};
 ghost use Rattle.listing.specs.Refusal.{labelled, wordOf, strayText, placeText, refusalLine, refusalRoom, outputFor, roomFor};
 use super::Put;
 use super::bytes_of;
 use text::Finding;
-use text::Translated;
 use wire::Stray;
 
 // The bytes of the longest line.
@@ -117,14 +116,13 @@ pub fn put_refusal(room: &mut [u8], numbered: Numbered, found: Finding) -> Put
     }
 }
 
-// What is to be written of a room that a list or a text was made in: that; or, where none was made, the line that says why, which is put there
-// instead.
-pub fn put_outcome(room: &mut [u8], numbered: Numbered, made: Translated) -> Output
-    ensures { λ r. ⌜ r ≡ outputFor numbered (translatedOf made) (now (room .entry)) ⌝ }
-    ensures { λ r. ⌜ now (room .exit) ≡ roomFor numbered (translatedOf made) (now (room .entry)) ⌝ }
-    ensures { λ r. ⌜ length (refusalLine numbered (translatedOf made .found)) ≤ refusalRoom ⌝ }
+// What is to be written of a room that a list or a text was to be made in, by what was found: its first so many bytes; or, where something was found,
+// the line that says so, which is put there instead.
+pub fn put_outcome(room: &mut [u8], numbered: Numbered, found: Finding, bytes: usize) -> Output
+    ensures { λ r. ⌜ r ≡ outputFor numbered (outcome found bytes) (now (room .entry)) ⌝ }
+    ensures { λ r. ⌜ now (room .exit) ≡ roomFor numbered (outcome found bytes) (now (room .entry)) ⌝ }
+    ensures { λ r. ⌜ length (refusalLine numbered found) ≤ refusalRoom ⌝ }
 {
-    let found = text::finding_of(made);
     let told = found.told;
     if told.code != 0 {
         let put = put_refusal(room, numbered, found);
@@ -134,7 +132,7 @@ pub fn put_outcome(room: &mut [u8], numbered: Numbered, made: Translated) -> Out
         };
     }
     Output {
-        bytes: text::bytes_of(made),
+        bytes,
         refused: false,
     }
 }

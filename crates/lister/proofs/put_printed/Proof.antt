@@ -7,7 +7,7 @@ use borrow.Author.Needs.{needs}
 use Rattle.text.specs.Lister.{textOf, rawFindings}
 use Rattle.listing.specs.declared.refusals.Numbered.{Numbered}
 use Rattle.listing.specs.Refusal.{refusalRoom}
-use Rattle.listing.proofs.Outputs.{output, room-left}
+use Rattle.listing.proofs.Outputs.{outcome-of, output, room-left}
 use Rattle.lister.specs.Printed.{printed}
 use Rattle.lister.proofs.Printed.{fits, answered, stays}
 use Rattle.lister.proofs.put_printed.Statement.{statement}
@@ -15,6 +15,12 @@ use Rattle.lister.proofs.put_printed.Tie as tie
 
 list-text-requires : tie.Need-list-text-requires
 list-text-requires c κs = search needs
+
+finding-of-requires : tie.Need-finding-of-requires
+finding-of-requires c κs = search needs
+
+bytes-of-requires : tie.Need-bytes-of-requires
+bytes-of-requires c κs = search needs
 
 put-outcome-requires : tie.Need-put-outcome-requires
 put-outcome-requires c κs = search needs
@@ -26,12 +32,15 @@ returns : tie.Need-returns
 unfolding printed
 returns c =
     let put = c .before .before .put-outcome in
-    let made = c .before .before .before .before .before .before in
+    let counted = c .before .before .before in
+    let found = counted .before in
+    let made = found .before .before .before .before in
     let start = made .before .before .before .before in
     let raw = start .args .raw .now in
     let room = start .args .room .now in
     let fit = fits raw room (λ i. omega (arith, made .before .before .shared-slice-known .given i)) (start .pre) in
-    let answer = made .list-text .ensures .0 ∙ answered raw room in
+    let is-made = outcome-of _ _ _ (found .finding-of .ensures) (counted .bytes-of .ensures) in
+    let answer = is-made ∙ made .list-text .ensures .0 ∙ answered raw room in
     let lies = made .list-text .ensures .1 ∙ stays raw room in
     let short = put .ensures .1 .1 in
     let enough : refusalRoom ≤ length room = omega (arith, start .pre) in
@@ -40,4 +49,12 @@ returns c =
     (ap (λ o. o .refused) told, (ap (λ o. o .bytes) told, left))
 
 pub put-printed-spec : {M : Type 1} → statement M
-put-printed-spec = tie.close (tie.spec list-text-requires put-outcome-requires same-length returns)
+put-printed-spec =
+    tie.close
+    (tie.spec
+    list-text-requires
+    finding-of-requires
+    bytes-of-requires
+    put-outcome-requires
+    same-length
+    returns)
