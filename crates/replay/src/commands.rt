@@ -2,7 +2,6 @@
 // writes it again.
 use super::items::State;
 use super::names;
-use super::tellings;
 use bench::Verdict;
 use script::Place;
 use script::output;

@@ -8,7 +8,6 @@ mod names;
 mod reports;
 mod seconds;
 mod tags;
-mod tellings;
 mod texts;
 
 use items::State;

@@ -1,7 +1,6 @@
 // The items with text: 0a assembles a raw list of one, 0b lists a raw list as one, 0c runs the kit's raw list and a typed one, 0d shows a line.
 use super::items::State;
 use super::reports;
-use super::tellings;
 use bench::TypedRan;
 use script::Place;
 use script::output;
@@ -19,19 +18,15 @@ pub enum Way {
 // A code, the line or command that it is of, and what was wrong with the number.
 fn finding(out: &mut [u8], used: usize, found: Finding) -> usize {
     let told = found.told;
-    let stray = told.stray;
-    let used = output::number(out, used, told.code as u64);
-    let used = output::number(out, used, found.number as u64);
-    tellings::wrong(out, used, stray)
+    tellings::numbered(out, used, told, found.number)
 }
 
 // The end of a translation's line, ` CODE NUMBER PAR VALUE LOW HIGH` and the bytes written, and the rest of the room.
 fn translated_lines(out: &mut [u8], used: usize, translated: Translated, room: &[u8]) -> usize {
+    let found = text::finding_of(translated);
+    let told = found.told;
     let size = text::bytes_of(translated);
-    let used = finding(out, used, text::finding_of(translated));
-    let used = output::hex(out, used, script::front(room, size));
-    let used = output::end(out, used);
-    rooms::rest_line(out, used, room, size)
+    tellings::written(out, used, told, found.number, room, size)
 }
 
 fn translated(out: &mut [u8], used: usize, way: Way, bytes: &[u8], room: &mut [u8]) -> usize {
