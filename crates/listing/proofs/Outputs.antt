@@ -55,6 +55,26 @@ module _ (numbered : Numbered) (found : Finding) (bytes room : List ℕ)
       go true is = with-room bytes room (fits (eqb-true _ 0 is))
       go false is = with-room (refusalLine numbered found) room short
 
+-- By what was found, what is answered of it and how the room was left.
+module _ (numbered : Numbered) (found : Finding) (bytes room : List ℕ) (fits : found .told .code ≡ 0 → length bytes ≤ length room)
+    (made : Outcome) (after : List ℕ) (is : made ≡ outcomeFor found (length bytes)) (lies : after ≡ cond (eqb (found .told .code) 0) (written bytes room) room)
+    (short : length (refusalLine numbered (made .found)) ≤ refusalRoom) (enough : refusalRoom ≤ length room) where
+  line-fits : length (refusalLine numbered found) ≤ length room
+  line-fits = omega (arith, ap (λ (m : Outcome). length (refusalLine numbered (m .found))) is)
+
+  pub found-output : outputFor numbered made after
+      ≡ record { bytes = length (printedFor numbered found bytes); refused = not (eqb (found .told .code) 0) }
+  found-output =
+      ap (λ m. outputFor numbered m after) is
+      ∙ ap (outputFor numbered (outcomeFor found (length bytes))) lies
+      ∙ made-output numbered found bytes room fits line-fits
+
+  pub found-room : roomFor numbered made after ≡ printedFor numbered found bytes ++ drop (length (printedFor numbered found bytes)) room
+  found-room =
+      ap (λ m. roomFor numbered m after) is
+      ∙ ap (roomFor numbered (outcomeFor found (length bytes))) lies
+      ∙ made-room numbered found bytes room fits line-fits
+
 -- Checks that find nothing where those before them do not.
 pub found-before : (checks more : List Finding) → (firstFound checks .told .code ≡ 0 → Silent more) → firstFound (checks ++ more) ≡ firstFound checks
 found-before checks more silent = found-append checks more ∙ go (eqb (firstFound checks .told .code) 0) refl
@@ -91,19 +111,10 @@ module _ (numbered : Numbered) (checks : List Finding) (bytes room : List ℕ)
     after-is : after ≡ cond (eqb (firstFound checks .told .code) 0) (written bytes room) room
     after-is = lies ∙ ap (λ (f : Finding). cond (eqb (f .told .code) 0) (written bytes room) room) same-found
 
-    line-fits : length (refusalLine numbered (firstFound checks)) ≤ length room
-    line-fits = omega (arith, ap (λ (m : Outcome). length (refusalLine numbered (m .found))) made-is)
-
     pub output : outputFor numbered made after
         ≡ record { bytes = length (printedFor numbered (firstFound checks) bytes); refused = not (eqb (firstFound checks .told .code) 0) }
-    output =
-        ap (λ m. outputFor numbered m after) made-is
-        ∙ ap (outputFor numbered (outcomeFor (firstFound checks) (length bytes))) after-is
-        ∙ made-output numbered (firstFound checks) bytes room fits line-fits
+    output = found-output numbered (firstFound checks) bytes room fits made after made-is after-is short enough
 
     pub room-left : roomFor numbered made after
         ≡ printedFor numbered (firstFound checks) bytes ++ drop (length (printedFor numbered (firstFound checks) bytes)) room
-    room-left =
-        ap (λ m. roomFor numbered m after) made-is
-        ∙ ap (roomFor numbered (outcomeFor (firstFound checks) (length bytes))) after-is
-        ∙ made-room numbered (firstFound checks) bytes room fits line-fits
+    room-left = found-room numbered (firstFound checks) bytes room fits made after made-is after-is short enough
