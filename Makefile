@@ -9,7 +9,7 @@ run:
 	@tools/sample
 
 programs:
-	rt check typed assemble lister list
+	rt check typed assemble lister list to_card from_card
 
 test:
 	@tools/test
