@@ -1,7 +1,7 @@
 //! The numbered answers of the rules, in the order in which they are tried (but
-//! 25 stands behind 15, and 26 between 10 and 11), the refusal that carries one of
-//! them with what was wrong with a number, and the place in a text or a list where it
-//! was found.
+//! 25 stands behind 15, 26 between 10 and 11, and of a stored list 34 to 38 stand about
+//! 5 to 10 and before 20), the refusal that carries one of them with what was wrong with
+//! a number, and the place in a text or a list where it was found.
 
 use std::fmt;
 
@@ -36,6 +36,11 @@ pub const UNKNOWN_NAME: u8 = 30;
 pub const MALFORMED_ARGUMENT: u8 = 31;
 pub const WRONG_NUMBER_OF_ARGUMENTS: u8 = 32;
 pub const GOAL_NOT_SAID: u8 = 33;
+pub const NUMBER_CUT_OFF: u8 = 34;
+pub const BAD_NUMBER: u8 = 35;
+pub const OTHER_FORM: u8 = 36;
+pub const LIST_LEFT_OVER: u8 = 37;
+pub const BAD_FLAG: u8 = 38;
 pub const ITEM_CUT_OFF: u8 = 47;
 pub const UNEXPECTED_TAG: u8 = 48;
 pub const WRONG_ITEM_LENGTH: u8 = 49;
@@ -48,7 +53,7 @@ pub fn can_be_shown(code: u8) -> bool {
     matches!(
         code,
         ACCEPTED..=POWER_OFF
-            | UNKNOWN_NAME..=GOAL_NOT_SAID
+            | UNKNOWN_NAME..=BAD_FLAG
             | ITEM_CUT_OFF..=BYTES_LEFT_OVER
             | BAD_OFFSETS
     )

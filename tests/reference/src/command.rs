@@ -151,7 +151,7 @@ impl Argument {
     }
 
     /// Code 8, of a value found in this argument, which has the position from 0.
-    fn refusal(&self, position: usize, value: u32) -> Refusal {
+    pub(crate) fn refusal(&self, position: usize, value: u32) -> Refusal {
         let [low, high] = self.ends();
         Refusal::out_of_range(Finding {
             parameter: position as u8 + 1,

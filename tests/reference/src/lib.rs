@@ -3,6 +3,7 @@
 //! the rules line by line; where speed or elegance cost that, they lost.
 
 pub mod bench;
+pub mod card;
 pub mod codes;
 pub mod command;
 pub mod comparison;

@@ -1,10 +1,13 @@
 //! The replay program for what is done to lists without a bench: a script of items in, a
-//! transcript of their answers out. So far its items are about the index.
+//! transcript of their answers out. So far its items are about the stored form and the index.
 
+use crate::card::{from_card, to_card};
 use crate::codes::code_and_finding;
 use crate::index::{found, index};
-use crate::replay::{rest_line, transcript_by, with_bytes, Script};
+use crate::replay::{rest_line, transcript_by, with_bytes, written_lines, Script};
 
+pub const TO_CARD: u8 = 0x00;
+pub const FROM_CARD: u8 = 0x01;
 pub const INDEX: u8 = 0x03;
 pub const LOOK_UP: u8 = 0x04;
 
@@ -22,6 +25,8 @@ pub fn transcript(script: &[u8]) -> String {
 /// Takes one item off the script and answers with its lines.
 pub fn item(script: &mut Script) -> Option<String> {
     match script.byte()? {
+        TO_CARD => written_lines("stored", to_card, script),
+        FROM_CARD => written_lines("raw", from_card, script),
         INDEX => index_lines(script),
         LOOK_UP => found_line(script),
         _ => None,

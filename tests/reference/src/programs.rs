@@ -1,9 +1,10 @@
-//! The programs for typed lists: what each writes to standard output and to
-//! standard error for its whole input.
+//! The programs for typed lists and for lists on a card: what each writes to
+//! standard output and to standard error for its whole input.
 
 use std::io::{Read, Write};
 
 use crate::bench::Bench;
+use crate::card::{raw_form, stored_form};
 use crate::codes::{Finding, Placed, OUT_OF_RANGE};
 use crate::list::{kit_list, report_lines};
 use crate::text::{commands_typed, raw_list, text_of};
@@ -85,9 +86,24 @@ pub fn assembler(text: &[u8]) -> Streams {
 
 /// A raw list in, the text out.
 pub fn lister(raw: &[u8]) -> Streams {
-    match text_of(raw) {
+    from_list(text_of(raw))
+}
+
+/// A raw list in, its stored form out.
+pub fn to_card(raw: &[u8]) -> Streams {
+    from_list(stored_form(raw))
+}
+
+/// A stored list in, the raw one out.
+pub fn from_card(stored: &[u8]) -> Streams {
+    from_list(raw_form(stored))
+}
+
+/// What was made of a list, or the number of the command that was refused.
+fn from_list(made: Result<impl Into<Vec<u8>>, Placed>) -> Streams {
+    match made {
         Err(placed) => Streams::errors(refused(&placed, "number")),
-        Ok(text) => Streams::output(text),
+        Ok(bytes) => Streams::output(bytes),
     }
 }
 

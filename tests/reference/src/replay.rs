@@ -251,7 +251,7 @@ fn placed_words<T>(answer: &Result<T, Placed>) -> String {
 }
 
 /// The lines of a writer that takes a whole text or list.
-fn written_lines(
+pub(crate) fn written_lines(
     name: &str,
     writer: fn(&[u8], &mut [u8]) -> Result<usize, Placed>,
     script: &mut Script,

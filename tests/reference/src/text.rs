@@ -123,7 +123,8 @@ pub fn list_text(raw: &[u8], room: &mut [u8]) -> Result<usize, Placed> {
     put(text_of(raw)?.as_bytes(), room)
 }
 
-fn put(bytes: &[u8], room: &mut [u8]) -> Result<usize, Placed> {
+/// Writes the bytes at the start of the room and says how many there are.
+pub(crate) fn put(bytes: &[u8], room: &mut [u8]) -> Result<usize, Placed> {
     refuse_if(bytes.len() > room.len(), TOO_LITTLE_ROOM)?;
     room[..bytes.len()].copy_from_slice(bytes);
     Ok(bytes.len())

@@ -374,8 +374,10 @@ fn codes_are_counted_wherever_a_line_shows_one() {
     tally.add("frame 0 24\nframe 22\npassed 7\nstatus 27\nsecond 0 0\n");
     tally.add("assembled 30 2 0 0 0 0\nlisted 33 1 0 0 0 0\ntyped 31 1 0 0 0 0 0 0\nline 6162\n");
     tally.add("housekeeping 24\ntags 47\ntags 0 1 2 50 9 21\nhousekeeping 0 32 49 48 50 12\n");
+    tally.add("stored 20 0 0 0 0 0\nraw 34 1 0 0 0 0\nraw 38 35 36 37 32 54\nfound 36\n");
     let missing = [
-        1, 2, 3, 4, 6, 7, 8, 10, 12, 13, 14, 15, 16, 17, 18, 23, 25, 26, 32, 48, 49, 50, 54,
+        1, 2, 3, 4, 6, 7, 8, 10, 12, 13, 14, 15, 16, 17, 18, 23, 25, 26, 32, 35, 36, 37, 48, 49,
+        50, 54,
     ];
     // 0 did not occur beside an entry.
     assert_eq!(tally.missing(), [&[0], &missing[..]].concat());

@@ -1,7 +1,7 @@
 //! Small scripts for the replay program for lists, with the transcript each must give,
 //! written by hand.
 
-use reference::comparison::items::{index, look_up};
+use reference::comparison::items::{from_card, index, look_up, to_card};
 use reference::lists_replay::transcript;
 use reference::wire::bytes_of;
 
@@ -14,6 +14,59 @@ fn list() -> Vec<u8> {
     let mut list = bytes_of(&[0x015a_0002; 4]);
     list.extend([1, 2, 3]);
     list
+}
+
+#[test]
+fn a_list_goes_to_a_card() {
+    let flush = &list()[..8];
+    let items = [
+        to_card(5, flush),
+        to_card(9, flush),
+        to_card(4, flush),
+        to_card(2, &[]),
+        to_card(99, &list()),
+        to_card(99, &[0; 4097]),
+        to_card(99, &bytes_of(&[0x0117_0003, 0x0005_0400, 0x0112_0403])),
+    ];
+    let expected = "stored 0 0 0 0 0 0 0101da0200\nrest same\n\
+                    stored 0 0 0 0 0 0 0101da0200\nrest same\n\
+                    stored 24 0 0 0 0 0\nrest same\n\
+                    stored 0 0 0 0 0 0 0100\nrest same\n\
+                    stored 1 3 0 0 0 0\nrest same\n\
+                    stored 20 0 0 0 0 0\nrest same\n\
+                    stored 8 1 2 1024 0 1023\nrest same\n";
+    assert_eq!(answer(&items), expected);
+}
+
+#[test]
+fn a_list_comes_off_a_card() {
+    let flush = [1, 1, 0xda, 2, 0];
+    let items = [
+        from_card(8, &flush),
+        from_card(9, &flush),
+        from_card(7, &flush),
+        from_card(0, &[1, 0]),
+        from_card(99, &flush[..4]),
+        from_card(99, &[1, 0, 0]),
+        from_card(99, &[1, 2, 0xda, 2, 0, 0x94, 2, 0, 0xac, 2]),
+    ];
+    let expected = "raw 0 0 0 0 0 0 015a0002015a0002\nrest same\n\
+                    raw 0 0 0 0 0 0 015a0002015a0002\nrest same\n\
+                    raw 24 0 0 0 0 0\nrest same\n\
+                    raw 0 0 0 0 0 0\nrest same\n\
+                    raw 34 1 0 0 0 0\nrest same\n\
+                    raw 37 0 0 0 0 0\nrest same\n\
+                    raw 8 2 1 300 0 1\nrest same\n";
+    assert_eq!(answer(&items), expected);
+}
+
+#[test]
+fn rooms_of_bytes_above_13000_count_as_13000() {
+    for room in [4096, 13_000, 13_001, 65_535] {
+        let items = [to_card(room, &list()[..8]), from_card(room, &[1, 0])];
+        let expected = "stored 0 0 0 0 0 0 0101da0200\nrest same\nraw 0 0 0 0 0 0\nrest same\n";
+        assert_eq!(answer(&items), expected);
+    }
 }
 
 #[test]
@@ -57,10 +110,12 @@ fn by_its_bytes() {
     script.extend([4, 0, 2, 0, 0, 0, 8, 0, 9]);
     script.extend(&list()[..9]);
     script.extend([0, 0, 0, 2]);
-    assert_eq!(
-        transcript(&script),
-        "indexed 0 2 0 8\nrest same\nfound 01\n"
-    );
+    script.extend([0, 0, 5, 0, 8, 1, 0x5a, 0, 2, 1, 0x5a, 0, 2]);
+    script.extend([1, 0, 8, 0, 5, 1, 1, 0xda, 2, 0]);
+    let expected = "indexed 0 2 0 8\nrest same\nfound 01\n\
+                    stored 0 0 0 0 0 0 0101da0200\nrest same\n\
+                    raw 0 0 0 0 0 0 015a0002015a0002\nrest same\n";
+    assert_eq!(transcript(&script), expected);
 }
 
 #[test]
@@ -107,11 +162,16 @@ fn six_hundred_offsets_are_read_and_one_more_is_bad() {
 fn scripts_that_end_badly() {
     assert_eq!(answer(&[]), "");
     let good = look_up(&[], &[], 1);
-    for first in (0..=255).filter(|first| *first != 3 && *first != 4) {
+    for first in (2..=255).filter(|first| *first != 3 && *first != 4) {
         let items = [good.clone(), vec![first], good.clone()];
         assert_eq!(answer(&items), "found\nbad script\n", "{first}");
     }
-    for item in [index(9, &[0, 8], &list()), look_up(&[0], &list(), 1)] {
+    for item in [
+        to_card(9, &list()),
+        from_card(9, &[1, 0]),
+        index(9, &[0, 8], &list()),
+        look_up(&[0], &list(), 1),
+    ] {
         for length in 1..item.len() {
             let items = [good.clone(), item[..length].to_vec()];
             assert_eq!(answer(&items), "found\nbad script\n", "{length}");

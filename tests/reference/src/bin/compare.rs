@@ -1,6 +1,6 @@
 //! The random comparison of the replay programs, a list program, the programs for
-//! typed lists and a cases program with the reference, and of the replay programs'
-//! answers with each other. Exits with 0 when nothing differs and every code occurred,
+//! typed lists and for lists on a card and a cases program with the reference, and of
+//! the replay programs' answers with each other. Exits with 0 when nothing differs and every code occurred,
 //! with 1 when not, and with 2 when it was not told what to compare.
 
 use std::process::ExitCode;
@@ -15,22 +15,25 @@ use reference::comparison::options::{Options, USAGE};
 use reference::comparison::program::Program;
 use reference::comparison::report::{answered, item_of_line, report, report_disagreement, Differs};
 use reference::comparison::rng::Rng;
-use reference::comparison::shrink::{commands, lines};
+use reference::comparison::shrink::{commands, lines, numbers};
 use reference::comparison::tally::{grouped, Tally};
+use reference::comparison::trips::{self, Trip};
 use reference::comparison::{fixed, fixed_dark, fixed_range, inputs, random, sums};
+use reference::comparison::{fixed_cards, random_cards};
 use reference::comparison::{fixed_evenings, random_evenings};
 use reference::comparison::{fixed_growths, fixed_index, random_index};
 use reference::list::listing;
 use reference::lists_replay;
 use reference::pictures::answers;
-use reference::programs::{assembler, lister, typed};
+use reference::programs::{assembler, from_card, lister, to_card, typed};
 use reference::replay::{self, Replay, Script};
 use reference::run::LONGEST_LIST;
 
 /// How much was sent and compared: scripts to the replay programs and the lines
 /// of their answers, lists to the list program, inputs to the programs for typed
-/// lists, and sums to the cases program; and lists split over two evenings and over
-/// three, and lists that grow, whose scripts and answers are among the others.
+/// lists and for lists on a card, and sums to the cases program; and lists split over
+/// two evenings and over three, lists that grow, and lists that go to a card or come off
+/// it and come back, whose scripts and answers are among the others.
 #[derive(Default)]
 struct Sent {
     scripts: u64,
@@ -41,17 +44,20 @@ struct Sent {
     pairs: usize,
     triples: usize,
     growths: usize,
+    trips: usize,
 }
 
 impl Sent {
     /// All but the scripts and the answers.
     fn others(&self) -> String {
         let (lists, inputs) = (self.lists, self.inputs);
-        let [sums, pairs, triples, growths] =
-            [self.sums, self.pairs, self.triples, self.growths].map(|it| grouped(it as u64));
+        let [sums, pairs, triples] =
+            [self.sums, self.pairs, self.triples].map(|it| grouped(it as u64));
+        let [growths, trips] = [self.growths, self.trips].map(|it| grouped(it as u64));
         format!(
             "{lists} lists, {inputs} inputs, {sums} sums, \
-             {pairs} pairs and {triples} triples of evenings, {growths} growing lists"
+             {pairs} pairs and {triples} triples of evenings, {growths} growing lists, \
+             {trips} lists there and back"
         )
     }
 }
@@ -64,6 +70,10 @@ const SUM_STREAM: u64 = 4 << 32;
 const EVENING_STREAM: u64 = 5 << 32;
 const GROWTH_STREAM: u64 = 6 << 32;
 const INDEX_STREAM: u64 = 7 << 32;
+const CARD_STREAM: u64 = 8 << 32;
+const TRIP_STREAM: u64 = 9 << 32;
+const TO_CARD_STREAM: u64 = 10 << 32;
+const FROM_CARD_STREAM: u64 = 11 << 32;
 
 /// A program that takes scripts, and what is expected of it.
 struct Taker<'a> {
@@ -115,11 +125,13 @@ fn main() -> ExitCode {
 fn compare_all(options: &Options, tally: &mut Tally) -> Result<Sent, Differs> {
     let mut sent = compare_scripts(options, tally)?;
     sent.lists = compare_lists(options)?;
-    sent.inputs = compare_typed_lists(options)?;
+    sent.inputs = compare_typed_lists(options)? + compare_cards(options)?;
     sent.sums = compare_sums(options)?;
     compare_evenings(options, tally, &mut sent)?;
     compare_index_scripts(options, tally, &mut sent)?;
     compare_growths(options, tally, &mut sent)?;
+    compare_card_scripts(options, tally, &mut sent)?;
+    compare_trips(options, tally, &mut sent)?;
     Ok(sent)
 }
 
@@ -257,6 +269,43 @@ fn compare_growths(options: &Options, tally: &mut Tally, sent: &mut Sent) -> Res
     Ok(())
 }
 
+/// Fixed items about lists on a card, then random ones.
+fn compare_card_scripts(
+    options: &Options,
+    tally: &mut Tally,
+    sent: &mut Sent,
+) -> Result<(), Differs> {
+    let mut rng = Rng::stream(options.seed, CARD_STREAM);
+    let mut scripts = fixed_cards::scripts();
+    scripts.extend(random_cards::scripts(&mut rng, options.cards));
+    for script in scripts {
+        compare_script(&lists_taker(options), &script, tally, sent)?;
+    }
+    Ok(())
+}
+
+/// Fixed and random lists that go to a card or come off it, and come back by what the
+/// program made of them. Both ways are compared with the reference, like any script, and
+/// then the list with what comes back.
+fn compare_trips(options: &Options, tally: &mut Tally, sent: &mut Sent) -> Result<(), Differs> {
+    let mut rng = Rng::stream(options.seed, TRIP_STREAM);
+    let mut all = fixed_cards::trips();
+    all.extend((0..options.cards).map(|_| random_cards::trip(&mut rng)));
+    sent.trips = all.len();
+    let taker = lists_taker(options);
+    for batch in batches(all, Trip::script_bytes) {
+        let items: Vec<Item> = batch.iter().map(Trip::out).collect();
+        let out = compare_script(&taker, &items, tally, sent)?;
+        let back = compare_script(&taker, &trips::backs(&batch, &out), tally, sent)?;
+        let (mut out, mut back) = (out.lines(), back.lines());
+        let differing = batch
+            .iter()
+            .find(|one| trips::disagreement(one, &mut out, &mut back).is_some());
+        differing.map_or(Ok(()), |one| Err(report_trip(taker.program, one)))?;
+    }
+    Ok(())
+}
+
 fn compare_lists(options: &Options) -> Result<usize, Differs> {
     let mut rng = Rng::stream(options.seed, LIST_STREAM);
     let mut lists = vec![
@@ -304,6 +353,29 @@ fn compare_typed_lists(options: &Options) -> Result<usize, Differs> {
         pieces: commands,
     };
     Ok(compared + compare_inputs(&subject, &raw_lists)?)
+}
+
+/// Both programs for lists on a card, both streams of each.
+fn compare_cards(options: &Options) -> Result<usize, Differs> {
+    let mut rng = Rng::stream(options.seed, TO_CARD_STREAM);
+    let mut raw_lists = fixed_cards::raw_inputs();
+    raw_lists.extend(random_cards::raw_inputs(&mut rng, options.inputs));
+    let storing = Subject {
+        input: "raw list",
+        program: &options.to_card,
+        expected: |raw| to_card(raw).in_words(),
+        pieces: commands,
+    };
+    let mut rng = Rng::stream(options.seed, FROM_CARD_STREAM);
+    let mut stored_lists = fixed_cards::stored_inputs();
+    stored_lists.extend(random_cards::stored_inputs(&mut rng, options.inputs));
+    let reading = Subject {
+        input: "stored list",
+        program: &options.from_card,
+        expected: |stored| from_card(stored).in_words(),
+        pieces: numbers,
+    };
+    Ok(compare_inputs(&storing, &raw_lists)? + compare_inputs(&reading, &stored_lists)?)
 }
 
 /// All sums in one input, a line for each.
@@ -364,4 +436,22 @@ fn report_growth(options: &Options, growth: &Growth) -> Differs {
     let smallest = growth.smallest(&mut |fewer| show(fewer).is_some());
     let items = [smallest.index_items(), smallest.shown_items()].concat();
     report_disagreement(&items, show(&smallest), "about the grown list")
+}
+
+/// The same for a list that does not come back as it was.
+fn report_trip(program: &Program, trip: &Trip) -> Differs {
+    println!("a list does not come back as it was, the items for both ways:");
+    let both = |trip: &Trip| {
+        let out = program.answer(&trip.out()).ok()?;
+        Some((trips::backs(std::slice::from_ref(trip), &out), out))
+    };
+    let show = |trip: &Trip| {
+        let (back, out) = both(trip)?;
+        let back = program.answer(&back.concat()).ok()?;
+        trips::disagreement(trip, &mut out.lines(), &mut back.lines())
+    };
+    let smallest = trip.smallest(&mut |fewer| show(fewer).is_some());
+    let mut items = vec![smallest.out()];
+    items.extend(both(&smallest).map_or(Vec::new(), |(back, _)| back));
+    report_disagreement(&items, show(&smallest), "about the way back")
 }

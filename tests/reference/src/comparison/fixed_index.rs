@@ -23,7 +23,7 @@ pub(super) const LISTS: [&str; 10] = ["", ".", "8.", "..49.", "1", "2", "3", ".8
 /// that there are.
 const ROOMS: [u16; 12] = [0, 1, 2, 3, 510, 511, 512, 513, 599, 600, 601, 65_535];
 
-/// All fixed scripts for the replay program for lists, but for those of growing lists.
+/// All fixed scripts about the index of a list, but for those of growing lists.
 pub fn scripts() -> Vec<Vec<Item>> {
     let mut items = lengths();
     items.extend(numbers_of_offsets());
@@ -261,7 +261,7 @@ fn bad_scripts() -> Vec<Vec<Item>> {
     for item in [index(4, &too_many, &[]), look_up(&too_many, &[], 1)] {
         ends.push(vec![item, good.clone()]);
     }
-    let firsts = [0x00, 0x01, 0x02, 0x05, 0x06, 0x13, 0x83, 0x84, 0xff];
+    let firsts = [0x02, 0x05, 0x06, 0x13, 0x80, 0x81, 0x83, 0x84, 0xff];
     for first in firsts {
         ends.push(vec![vec![first], good.clone()]);
         ends.push(vec![vec![first, 0, 0, 0, 0], good.clone()]);

@@ -146,7 +146,8 @@ fn pairs(
     lists: &mut Lines,
     replay: &mut Lines,
 ) -> Result<Vec<Disagreement>, Disagreement> {
-    let (start, anew, extended) = (indexed(lists)?, indexed(lists)?, indexed(lists)?);
+    let (start, anew) = (with_same_rest(lists)?, with_same_rest(lists)?);
+    let extended = with_same_rest(lists)?;
     let handed_in = [&growth.start, &growth.list()].map(|list| counted(&index_of(list)));
     let mut pairs = vec![
         // The offsets that the program was handed are those that it finds by itself.
@@ -169,8 +170,8 @@ fn next<'a>(lines: &mut Lines<'a>) -> Result<&'a str, Disagreement> {
     lines.next().ok_or_else(no_line)
 }
 
-/// The first line about an index; behind it the room is as it was.
-fn indexed<'a>(lines: &mut Lines<'a>) -> Result<&'a str, Disagreement> {
+/// The first line about what was written into a room, which is as it was behind that.
+pub(super) fn with_same_rest<'a>(lines: &mut Lines<'a>) -> Result<&'a str, Disagreement> {
     let (first, rest) = (next(lines)?, next(lines)?);
     match rest {
         REST_SAME => Ok(first),

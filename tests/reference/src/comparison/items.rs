@@ -2,7 +2,7 @@
 //! allowed or not.
 
 use crate::command::{Command, Kind};
-use crate::lists_replay::{INDEX, LOOK_UP};
+use crate::lists_replay::{FROM_CARD, INDEX, LOOK_UP, TO_CARD};
 use crate::replay::{
     ASSEMBLE, COMMAND, DECODED, FRAME, FRESH, HOUSEKEEPING, LINE, LIST, PASSED, READ, RUN, SECOND,
     SHOWN, STATUS, TAGS, TYPED,
@@ -130,7 +130,21 @@ fn long_offsets(item: &mut Item, offsets: &[u16]) {
     item.extend(offsets.iter().flat_map(|offset| offset.to_be_bytes()));
 }
 
-/// An item of the replay program for lists, as the next.
+/// An item of the replay program for lists, as the next ones.
+pub fn to_card(room: u16, raw: &[u8]) -> Item {
+    let mut item = vec![TO_CARD];
+    item.extend(room.to_be_bytes());
+    long_part(&mut item, raw);
+    item
+}
+
+pub fn from_card(room: u16, stored: &[u8]) -> Item {
+    let mut item = vec![FROM_CARD];
+    item.extend(room.to_be_bytes());
+    long_part(&mut item, stored);
+    item
+}
+
 pub fn index(room: u16, offsets: &[u16], list: &[u8]) -> Item {
     let mut item = vec![INDEX];
     item.extend(room.to_be_bytes());

@@ -2,10 +2,12 @@
 //! runs a program, and what it makes of the two transcripts, or of one by itself.
 
 pub mod agreement;
+pub mod cards;
 pub mod damage;
 pub mod evenings;
 pub mod fixed;
 pub mod fixed_bench;
+pub mod fixed_cards;
 pub mod fixed_dark;
 pub mod fixed_evenings;
 pub mod fixed_groups;
@@ -17,6 +19,7 @@ pub mod fixed_lookups;
 pub mod fixed_pool;
 pub mod fixed_range;
 pub mod fixed_range_lines;
+pub mod fixed_stored;
 pub mod fixed_tags;
 pub mod fixed_text;
 pub mod fixed_wire;
@@ -27,6 +30,7 @@ pub mod options;
 mod past;
 pub mod program;
 pub mod random;
+pub mod random_cards;
 mod random_dark;
 pub mod random_evenings;
 mod random_groups;
@@ -41,3 +45,4 @@ pub mod shrink;
 pub mod sums;
 pub mod tally;
 pub mod texts;
+pub mod trips;

@@ -5,7 +5,8 @@ use super::program::Program;
 
 pub const USAGE: &str = "usage: compare --replay \"CMD\" --list \"CMD\" \
     --typed \"CMD\" --assemble \"CMD\" --lister \"CMD\" --cases \"CMD\" --lists_replay \"CMD\" \
-    [--seed N] [--lists N] [--inputs N] [--sums N] [--evenings N] [--indexes N] [--answers N]";
+    --to_card \"CMD\" --from_card \"CMD\" [--seed N] [--lists N] [--inputs N] [--sums N] \
+    [--evenings N] [--indexes N] [--cards N] [--answers N]";
 
 pub struct Options {
     pub replay: Program,
@@ -15,10 +16,13 @@ pub struct Options {
     pub lister: Program,
     pub cases: Program,
     pub lists_replay: Program,
+    pub to_card: Program,
+    pub from_card: Program,
     pub seed: u64,
     /// How many random lists are sent, besides those of 0, 4,096 and 4,097 bytes.
     pub lists: usize,
-    /// How many random inputs each program for typed lists gets, besides the fixed ones.
+    /// How many random inputs each program for typed lists and for lists on a card gets,
+    /// besides the fixed ones.
     pub inputs: usize,
     /// How many random sums the cases program is asked for, besides the fixed ones.
     pub sums: usize,
@@ -28,6 +32,9 @@ pub struct Options {
     /// How many random lists grow, and how many random ones are indexed and looked up by
     /// offsets of any sort, besides the fixed ones.
     pub indexes: usize,
+    /// How many random lists go to a card or come off it and come back, and how often a
+    /// few random ones of any sort do either, besides the fixed ones.
+    pub cards: usize,
     /// How many transcript lines are to be compared at least.
     pub answers: u64,
 }
@@ -38,6 +45,7 @@ const DEFAULT_INPUTS: usize = 40;
 const DEFAULT_SUMS: usize = 400;
 const DEFAULT_EVENINGS: usize = 600;
 const DEFAULT_INDEXES: usize = 600;
+const DEFAULT_CARDS: usize = 600;
 const DEFAULT_ANSWERS: u64 = 240_000;
 
 /// The same options while it is not yet known whether all have been given.
@@ -50,12 +58,15 @@ struct Given {
     lister: Option<Program>,
     cases: Option<Program>,
     lists_replay: Option<Program>,
+    to_card: Option<Program>,
+    from_card: Option<Program>,
     seed: Option<u64>,
     lists: Option<usize>,
     inputs: Option<usize>,
     sums: Option<usize>,
     evenings: Option<usize>,
     indexes: Option<usize>,
+    cards: Option<usize>,
     answers: Option<u64>,
 }
 
@@ -70,12 +81,15 @@ impl Given {
             "--lister" => self.lister = Program::with_errors(value),
             "--cases" => self.cases = Program::new(value),
             "--lists_replay" => self.lists_replay = Program::new(value),
+            "--to_card" => self.to_card = Program::with_errors(value),
+            "--from_card" => self.from_card = Program::with_errors(value),
             "--seed" => self.seed = Some(value.parse().ok()?),
             "--lists" => self.lists = Some(value.parse().ok()?),
             "--inputs" => self.inputs = Some(value.parse().ok()?),
             "--sums" => self.sums = Some(value.parse().ok()?),
             "--evenings" => self.evenings = Some(value.parse().ok()?),
             "--indexes" => self.indexes = Some(value.parse().ok()?),
+            "--cards" => self.cards = Some(value.parse().ok()?),
             "--answers" => self.answers = Some(value.parse().ok()?),
             _ => return None,
         }
@@ -97,18 +111,21 @@ impl Options {
             lister: given.lister?,
             cases: given.cases?,
             lists_replay: given.lists_replay?,
+            to_card: given.to_card?,
+            from_card: given.from_card?,
             seed: given.seed.unwrap_or(DEFAULT_SEED),
             lists: given.lists.unwrap_or(DEFAULT_LISTS),
             inputs: given.inputs.unwrap_or(DEFAULT_INPUTS),
             sums: given.sums.unwrap_or(DEFAULT_SUMS),
             evenings: given.evenings.unwrap_or(DEFAULT_EVENINGS),
             indexes: given.indexes.unwrap_or(DEFAULT_INDEXES),
+            cards: given.cards.unwrap_or(DEFAULT_CARDS),
             answers: given.answers.unwrap_or(DEFAULT_ANSWERS),
         })
     }
 
     /// Every program that is to be started.
-    pub fn programs(&self) -> [&Program; 7] {
+    pub fn programs(&self) -> [&Program; 9] {
         [
             &self.replay,
             &self.list,
@@ -117,6 +134,8 @@ impl Options {
             &self.lister,
             &self.cases,
             &self.lists_replay,
+            &self.to_card,
+            &self.from_card,
         ]
     }
 }

@@ -22,6 +22,12 @@ pub fn lines(text: &[u8]) -> Vec<Item> {
     lines.map(|line| line.to_vec()).collect()
 }
 
+/// A stored list in pieces, a number to each.
+pub fn numbers(stored: &[u8]) -> Vec<Item> {
+    let numbers = stored.split_inclusive(|byte| byte & 0x80 == 0);
+    numbers.map(|number| number.to_vec()).collect()
+}
+
 /// Counts the tries and asks whether a script still shows the difference.
 struct Trial<'a> {
     differs: &'a mut dyn FnMut(&[Item]) -> bool,
