@@ -281,8 +281,8 @@ pub fn stored_inputs() -> Vec<Vec<u8>> {
     lists
 }
 
-/// Of just 65,536 bytes: a list that would be too long, one whose last flag is none, one
-/// whose last flag has no end, one with bytes left over, and a number without an end.
+/// Of just 65,536 bytes: a list whose last flag is none, one whose last flag has no end,
+/// one with bytes left over, a number without an end, and a list that would be too long.
 fn longest_inputs() -> [Vec<u8>; 5] {
     let most = stored(&fixed_stored::flushes(21_844));
     let fewer = stored(&fixed_stored::flushes(21_843));
