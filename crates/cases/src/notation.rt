@@ -1,18 +1,27 @@
 // The bytes of a line. Plain: hex with blanks anywhere between the digits; `z` stands for a word of zeros, and `^` for the XOR of the words before it,
 // so that a command can be given its right last word. In quotes: text, where behind a backslash n, r, t and 0 stand for their bytes, x and two hex
 // digits for that byte, and anything else for itself, so also a quote. A number of 16 bits and `*` before a quote: the text in it so often.
+// In angle brackets: numbers of up to eight hex digits with blanks between them, each in groups of seven bits, as a stored list has its numbers.
 use super::lines;
 use super::rooms;
 
 // No line has so many bytes; it keeps the product with a number of 16 bits small.
 const SIZES: usize = 65536;
 
-// What the next character is: plain, in quotes, behind a backslash, or a digit behind `\x`.
+// How much more each group of seven bits counts than the one before it.
+const GROUP: u32 = 128;
+
+// The first number that has more than seven hex digits.
+const SEVEN_DIGITS: u32 = 0x1000_0000;
+
+// What the next character is: plain, in quotes, behind a backslash, a digit behind `\x`; or in angle brackets, before a number, or behind digits that say this.
 enum Mode {
     Plain,
     Quoted,
     Escaped,
     Digit,
+    Between,
+    Number(u32),
 }
 
 // How far the bytes are made: hex digits so far, two to a byte; where the text in quotes began, and how often it is wanted.
@@ -116,6 +125,12 @@ fn plain(room: &mut [u8], scan: Scan, c: u8) -> Scan {
     if c == b'*' {
         return counted(room, scan);
     }
+    if c == b'<' {
+        return Scan {
+            mode: Mode::Between,
+            ..scan
+        };
+    }
     Scan {
         digits: character(room, scan.digits, c),
         ..scan
@@ -193,6 +208,54 @@ fn escaped_digit(room: &mut [u8], scan: Scan, c: u8) -> Scan {
     Scan { digits, ..scan }
 }
 
+// Puts a number in groups of seven bits, lowest first, from a place on, the high bit set on all but the last, and answers where they end.
+fn groups(room: &mut [u8], at: usize, value: u32) -> usize {
+    let mut left = value;
+    let mut i = at;
+    while GROUP <= left {
+        rooms::set(room, i, (left % GROUP + GROUP) as u8);
+        left = left / GROUP;
+        i = std::num::wrapping_add_usize(i, 1);
+    }
+    rooms::set(room, i, left as u8);
+    std::num::wrapping_add_usize(i, 1)
+}
+
+// A character in angle brackets that stands behind no digit.
+fn between(scan: Scan, c: u8) -> Scan {
+    let d = digit(c);
+    if d < 16 {
+        return Scan {
+            mode: Mode::Number(d as u32),
+            ..scan
+        };
+    }
+    if c == b'>' {
+        return Scan {
+            mode: Mode::Plain,
+            ..scan
+        };
+    }
+    Scan {
+        mode: Mode::Between,
+        ..scan
+    }
+}
+
+// A character behind the digits of a number, which ends where no digit follows.
+fn grouped(room: &mut [u8], scan: Scan, value: u32, c: u8) -> Scan {
+    let d = digit(c);
+    if d < 16 {
+        return Scan {
+            mode: Mode::Number(value % SEVEN_DIGITS * 16 + d as u32),
+            ..scan
+        };
+    }
+    let end = groups(room, scan.digits / 2, value);
+    let digits = std::num::wrapping_add_usize(end, end);
+    between(Scan { digits, ..scan }, c)
+}
+
 // One character, wherever it stands.
 fn step(room: &mut [u8], scan: Scan, c: u8) -> Scan {
     let mode = scan.mode;
@@ -201,6 +264,8 @@ fn step(room: &mut [u8], scan: Scan, c: u8) -> Scan {
         Mode::Quoted => quoted(room, scan, c),
         Mode::Escaped => escaped(room, scan, c),
         Mode::Digit => escaped_digit(room, scan, c),
+        Mode::Between => between(scan, c),
+        Mode::Number(value) => grouped(room, scan, value, c),
     }
 }
 
