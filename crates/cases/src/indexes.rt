@@ -194,7 +194,7 @@ fn held(list: &[u8], number: u32, shown: &[u8]) {
     let count = index::count_of(index::build(list, &none, &mut room));
     let found = index::look_up(list, front(&room, count), number);
     command(found);
-    if found.len() == shown.len() && lines::begins(found, shown) {
+    if lines::same(found, shown) {
         say::text(b" as shown");
     } else {
         say::text(b" not as shown");

@@ -34,6 +34,11 @@ pub fn begins(s: &[u8], t: &[u8]) -> bool {
     true
 }
 
+// The same bytes?
+pub fn same(s: &[u8], t: &[u8]) -> bool {
+    s.len() == t.len() && begins(s, t)
+}
+
 // What stands before the colon.
 pub fn label(line: &[u8]) -> &[u8] {
     part(line, 0, find(line, 0, b':'))

@@ -2,6 +2,7 @@
 // A bench goes from line to line: a few quiet verbs, which print nothing, make the one that the next lines ask.
 // The cases stand in this crate's `stdin`, by theme, and the answers that the rules ask for in its `stdout`; what is printed must equal them.
 mod asking;
+mod cards;
 mod compare;
 mod decoded;
 mod frames;
@@ -43,7 +44,18 @@ fn framed(line: &[u8], s: &[u8]) {
     }
 }
 
-// Verbs of indexes, and else those of frames.
+// Verbs of lists on a card, and else those of frames.
+fn moved(line: &[u8], s: &[u8]) {
+    if lines::begins(line, b"save ") {
+        cards::save(s);
+    } else if lines::begins(line, b"load ") {
+        cards::load(s);
+    } else {
+        framed(line, s);
+    }
+}
+
+// Verbs of indexes, and else those of lists on a card.
 fn indexed(line: &[u8], s: &[u8]) {
     if lines::begins(line, b"index ") {
         indexes::build(s);
@@ -54,7 +66,7 @@ fn indexed(line: &[u8], s: &[u8]) {
     } else if lines::begins(line, b"jump ") {
         indexes::jump(s);
     } else {
-        framed(line, s);
+        moved(line, s);
     }
 }
 

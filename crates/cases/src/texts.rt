@@ -34,7 +34,7 @@ fn told(found: Finding, name: &[u8]) {
 }
 
 // How many bytes were written at the front of a room; the last of them, which the caller prints.
-fn wrote(room: &[u8], size: usize) -> &[u8] {
+pub fn wrote(room: &[u8], size: usize) -> &[u8] {
     say::field(b", wrote ", size as u64);
     say::text(b" bytes ");
     if size <= BYTES {
