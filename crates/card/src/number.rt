@@ -13,8 +13,17 @@ pub enum Number {
     Bad(Fault),
 }
 
-// The high bit of a byte, and how much more each group counts than the one before it.
+// The high bit of a byte, which says that another group follows; and how much more each group counts than the one before it.
 const MORE: u64 = 128;
+
+// What one group can say is below this; and what two, three and four can.
+const ONE_GROUP: u32 = 128;
+
+const TWO_GROUPS: u32 = 16_384;
+
+const THREE_GROUPS: u32 = 2_097_152;
+
+const FOUR_GROUPS: u32 = 268_435_456;
 
 // How many groups stand before the last that a number of 32 bits may have.
 const MOST_BEFORE: usize = 4;
@@ -83,16 +92,16 @@ pub fn number_at(s: &[u8], at: usize) -> Number
 pub fn number_length(value: u32) -> usize
     ensures { λ r. ⌜ r ≡ length (numberBytes value) ⌝ }
 {
-    if value < 128 {
+    if value < ONE_GROUP {
         return 1;
     }
-    if value < 16384 {
+    if value < TWO_GROUPS {
         return 2;
     }
-    if value < 2097152 {
+    if value < THREE_GROUPS {
         return 3;
     }
-    if value < 268435456 {
+    if value < FOUR_GROUPS {
         return 4;
     }
     5
@@ -106,9 +115,9 @@ pub fn put_number(room: &mut [u8], at: usize, value: u32) -> usize
 {
     let mut left = value;
     let mut i = at;
-    while 128 <= left {
-        room[i] = (left % 128 + 128) as u8;
-        left = left / 128;
+    while ONE_GROUP <= left {
+        room[i] = (left % ONE_GROUP + ONE_GROUP) as u8;
+        left /= ONE_GROUP;
         i += 1;
     }
     room[i] = left as u8;
