@@ -2,7 +2,8 @@
    It does the same jobs as crates/timing and folds their results in the same way. Typed lists are assembled and listed by the rules of request Q-1;
    the macros share one pool of entries by those of request Q-9, a second hands over a group of them by those of request Q-2, no picture is asked for
    with the power off by those of request Q-3, a number out of range is told with its limits by those of request Q-6, the numbers of the latest run
-   are kept, and sent as housekeeping, by those of request Q-11, and a command is looked up through an index by those of request Q-14. */
+   are kept, and sent as housekeeping, by those of request Q-11, a command is looked up through an index by those of request Q-14, and a list is moved to
+   a memory card and back by those of request Q-4. */
 #include "plain.h"
 #include <stdbool.h>
 #include <string.h>
@@ -13,6 +14,7 @@ enum { RECEIVED_TAG = 0x12, FAILED_TAG = 0x13, CODE_TAG = 0x14, FREE_TAG = 0x15,
 enum { RECEIVED_AT = 0, FAILED_AT = 6, CODE_AT = 12, FREE_AT = 15, HOUSEKEEPING = 18 /* bytes of a whole housekeeping frame */ };
 enum { KIT = 1, PUPIL = 2, INDEX = 512 /* the most offsets of an index */ };
 enum { TEXT = 32768, DIGITS = 5, LISTED = 8192 /* above the 7,846 bytes that a list's text has at most */ };
+enum { GROUP_BITS = 7, MORE = 0x80 /* on every group of a number but its last */, MOST_GROUPS = 5, STORED_FORM = 1 /* the first number on a card */ };
 
 enum kind {
     IMG_PWR, IMG_REGION, IMG_TRACK, TRK_ALG, TRK_LOOP, IMG_IMAGE, TRK_GOAL, TLM_FLUSH, FLUSH_AUTO, OPEN, CLOSE, RUN, WAIT, STOP, CLEAR
@@ -177,7 +179,7 @@ static uint8_t judge(const struct command *c, struct stray *stray)
     return 0;
 }
 
-static int kind_of(uint16_t opcode, unsigned *words)
+static inline int kind_of(uint16_t opcode, unsigned *words)
 {
     switch (opcode) {
     case 0x0114: *words = 3; return IMG_PWR;
@@ -967,6 +969,151 @@ static struct placed listed(const uint8_t *list, size_t size, uint8_t *room, siz
     return placed(0, 0, made);
 }
 
+/* Lists on a memory card: numbers in groups of seven bits, the lowest first. */
+
+static uint8_t *put_groups(uint8_t *out, uint32_t value)
+{
+    for (; value >= MORE; value >>= GROUP_BITS) *out++ = (uint8_t)(value | MORE);
+    *out++ = (uint8_t)value;
+    return out;
+}
+
+/* 34, 35, else the number at the front of *s, which is then behind it. */
+static inline uint8_t get_groups(const uint8_t **s, const uint8_t *end, uint32_t *value)
+{
+    const uint8_t *p = *s;
+    uint64_t sum = 0;
+    for (unsigned shift = 0; shift < MOST_GROUPS * GROUP_BITS; shift += GROUP_BITS) {
+        if (p == end) return 34;
+        uint8_t group = *p++;
+        sum |= (uint64_t)(group & (MORE - 1)) << shift;
+        if (group < MORE) {
+            if (sum > UINT32_MAX || (group == 0 && shift > 0)) return 35;
+            *value = (uint32_t)sum;
+            *s = p;
+            return 0;
+        }
+    }
+    while (p < end) {
+        if (*p++ < MORE) return 35;
+    }
+    return 34;
+}
+
+/* The stored form of a command that passed 1 to 10. */
+static uint8_t *put_stored(uint8_t *out, const struct command *c)
+{
+    out = put_groups(out, opcode_of(c->kind));
+    out = put_groups(out, c->flag);
+    switch (c->kind) {
+    case IMG_PWR: case TRK_ALG: case TRK_LOOP: case FLUSH_AUTO: case OPEN: case RUN:
+        return put_groups(out, c->mode);
+    case WAIT:
+        return put_groups(out, c->seconds);
+    case IMG_REGION: case IMG_TRACK: case IMG_IMAGE:
+        return put_groups(put_groups(out, c->first), c->second);
+    case TRK_GOAL:
+        return put_groups(put_groups(out, bits(c->x)), bits(c->y));
+    }
+    return out;
+}
+
+/* 20, the first bad command, 24. The stored form is made beside the room, as above; only the number of commands has to be known before it. */
+static struct placed stored(const uint8_t *list, size_t size, uint8_t *room, size_t fits, struct stray *stray)
+{
+    uint8_t head[2 * MOST_GROUPS], commands[LIST], *out = commands; /* no command takes more bytes than it did */
+    uint32_t number = 0;
+    size_t reach;
+    if (size > LIST) return placed(20, 0, 0);
+    for (size_t at = 0; at < size; at += reach) {
+        struct command c;
+        number++;
+        uint8_t code = read_command(list + at, size - at, &c, &reach, stray);
+        if (code != 0) return placed(code, number, 0);
+        out = put_stored(out, &c);
+    }
+    size_t before = (size_t)(put_groups(put_groups(head, STORED_FORM), number) - head), made = (size_t)(out - commands);
+    if (before + made > fits) return placed(24, 0, 0);
+    memcpy(room, head, before);
+    memcpy(room + before, commands, made);
+    return placed(0, 0, before + made);
+}
+
+/* 34, 35, 8 on an argument of this command, 1 or 2. */
+static uint8_t get_argument(const uint8_t **s, const uint8_t *end, const struct command *c, uint8_t par, uint32_t *value, struct stray *stray)
+{
+    const struct limits *l = &limits[c->kind][par - 1];
+    uint8_t code = get_groups(s, end, value);
+    if (code != 0) return code;
+    if (*value >= l->low && *value <= l->high) return 0;
+    return c->kind == TRK_GOAL && goal_allowed(*value) ? 0 : out_of_range(c, par, *value, stray);
+}
+
+/* 34 and 35 at each number, then 5, 38 or 8; 9 and 10 are left to the writer. */
+static uint8_t get_stored(const uint8_t **s, const uint8_t *end, struct command *c, struct stray *stray)
+{
+    uint32_t opcode, flag, numbers[2] = { 0, 0 };
+    unsigned words;
+    uint8_t code = get_groups(s, end, &opcode);
+    if (code != 0) return code;
+    int kind = opcode > UINT16_MAX ? -1 : kind_of((uint16_t)opcode, &words);
+    if (kind < 0) return 5;
+    code = get_groups(s, end, &flag);
+    if (code != 0) return code;
+    if (flag > 1) return 38;
+    c->flag = flag == 1;
+    c->kind = (uint8_t)kind;
+    for (uint8_t i = 0; i < names[kind].arguments; i++) {
+        code = get_argument(s, end, c, i + 1, &numbers[i], stray);
+        if (code != 0) return code;
+    }
+    switch (kind) {
+    case IMG_PWR: case TRK_ALG: case TRK_LOOP: case FLUSH_AUTO: case OPEN: case RUN:
+        c->mode = (uint8_t)numbers[0];
+        break;
+    case WAIT:
+        c->seconds = (uint16_t)numbers[0];
+        break;
+    case IMG_REGION: case IMG_TRACK: case IMG_IMAGE:
+        c->first = (uint16_t)numbers[0];
+        c->second = (uint16_t)numbers[1];
+        break;
+    case TRK_GOAL:
+        c->x = single(numbers[0]);
+        c->y = single(numbers[1]);
+        break;
+    }
+    return 0;
+}
+
+/* 34, 35, 36, the first bad command, 37, 20, 24. The list is made beside the room, as above. */
+static struct placed restored(const uint8_t *stored, size_t size, uint8_t *room, size_t fits, struct stray *stray)
+{
+    const uint8_t *s = stored, *end = stored + size;
+    uint8_t list[LIST];
+    size_t made = 0;
+    uint32_t first, count;
+    bool too_long = false;
+    uint8_t code = get_groups(&s, end, &first);
+    if (code == 0 && first != STORED_FORM) code = 36;
+    if (code == 0) code = get_groups(&s, end, &count);
+    if (code != 0) return placed(code, 0, 0);
+    for (uint32_t i = 0; i < count; i++) {
+        struct command c;
+        size_t n = 0;
+        code = get_stored(&s, end, &c, stray);
+        if (code == 0) code = write_command(&c, list + made, LIST - made, &n, stray);
+        if (code == 24) too_long = true; /* a bad command further down still comes first */
+        else if (code != 0) return placed(code, i + 1, 0);
+        made += n;
+    }
+    if (s != end) return placed(37, 0, 0);
+    if (too_long) return placed(20, 0, 0);
+    if (made > fits) return placed(24, 0, 0);
+    memcpy(room, list, made);
+    return placed(0, 0, made);
+}
+
 /* A command as a part of its list. */
 struct part {
     const uint8_t *start;
@@ -1309,5 +1456,27 @@ uint64_t plain_shown(const uint8_t *kit, size_t kits, const uint8_t *pupil, size
 {
     uint64_t sum = 0;
     for (uint32_t i = 0; i < times; i++) sum = with_part(sum, shown(kit, kits, pupil, pupils, sender, number ^ (uint32_t)(sum % 4)), i);
+    return sum;
+}
+
+uint64_t plain_to_card(const uint8_t *list, size_t size, uint8_t *room, size_t fits, uint32_t times)
+{
+    uint64_t sum = 0;
+    for (uint32_t i = 0; i < times; i++) {
+        struct stray stray = { 0 };
+        struct placed p = stored(list, size, room, fits, &stray);
+        sum = with_placed(sum, p, &stray);
+    }
+    return sum;
+}
+
+uint64_t plain_from_card(const uint8_t *stored, size_t size, uint8_t *room, size_t fits, uint32_t times)
+{
+    uint64_t sum = 0;
+    for (uint32_t i = 0; i < times; i++) {
+        struct stray stray = { 0 };
+        struct placed p = restored(stored, size, room, fits, &stray);
+        sum = with_placed(sum, p, &stray);
+    }
     return sum;
 }

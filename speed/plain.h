@@ -16,7 +16,9 @@
     uint64_t side##_list(const uint8_t *list, size_t size, uint8_t *room, size_t fits, uint32_t times); \
     uint64_t side##_index(const uint8_t *list, size_t size, const uint16_t *old, size_t olds, uint16_t *room, size_t fits, uint32_t times); \
     uint64_t side##_look_up(const uint8_t *list, size_t size, const uint16_t *offsets, size_t count, uint32_t number, uint32_t times); \
-    uint64_t side##_shown(const uint8_t *kit, size_t kits, const uint8_t *pupil, size_t pupils, uint8_t sender, uint32_t number, uint32_t times);
+    uint64_t side##_shown(const uint8_t *kit, size_t kits, const uint8_t *pupil, size_t pupils, uint8_t sender, uint32_t number, uint32_t times); \
+    uint64_t side##_to_card(const uint8_t *list, size_t size, uint8_t *room, size_t fits, uint32_t times); \
+    uint64_t side##_from_card(const uint8_t *stored, size_t size, uint8_t *room, size_t fits, uint32_t times);
 
 JOBS(timing)
 JOBS(plain)

@@ -3,6 +3,7 @@
 use bench::Bench;
 use bench::Housekept;
 use bench::Status;
+use card::Moved;
 use frame::Frame;
 use housekeeping::Housekeeping;
 use index::Indexed;
@@ -572,6 +573,39 @@ pub extern "C" fn timing_shown<'a>(
     while i < times {
         let part = walk::shown(kit, pupil, sender, number_of(number, sum));
         sum = with_part(sum, part, i);
+        i += 1;
+    }
+    sum
+}
+
+// The code of a moved list with what was wrong with the number, the number of the command, and how many bytes were written.
+fn with_moved(sum: u64, moved: Moved) -> u64 {
+    let number = mixed(
+        with_told(sum, card::told_of(moved)),
+        card::number_of(moved) as u64,
+    );
+    mixed(number, card::bytes_of(moved) as u64)
+}
+
+// Moves a raw list to a card so many times, to the same place of the room.
+#[no_mangle]
+pub extern "C" fn timing_to_card(list: &[u8], room: &mut [u8], times: u32) -> u64 {
+    let mut sum: u64 = 0;
+    let mut i: u32 = 0;
+    while i < times {
+        sum = with_moved(sum, card::to_card(list, room));
+        i += 1;
+    }
+    sum
+}
+
+// Moves a stored list from a card so many times, to the same place of the room.
+#[no_mangle]
+pub extern "C" fn timing_from_card(stored: &[u8], room: &mut [u8], times: u32) -> u64 {
+    let mut sum: u64 = 0;
+    let mut i: u32 = 0;
+    while i < times {
+        sum = with_moved(sum, card::from_card(stored, room));
         i += 1;
     }
     sum
