@@ -237,9 +237,10 @@ static const struct form {
     { "clear", 0x7f06, BARE, NEVER, { { 0 } } },
 };
 
-/* A list in both its ways of writing. */
+/* A list in its three ways of writing; the stored one without its first two numbers, the second of which is how many commands there are. */
 struct typed {
-    struct list raw, text;
+    struct list raw, text, stored;
+    unsigned count;
 };
 
 static void append_text(struct list *l, const char *format, ...)
@@ -271,9 +272,11 @@ static uint32_t goal_bits(uint32_t quarters)
     return bits;
 }
 
+/* How many arguments a layout has. */
+static const unsigned arguments[] = { [BARE] = 0, [BYTE] = 1, [HALF] = 1, [HALVES] = 2, [SINGLES] = 2 };
+
 static void append_line(struct list *l, const struct form *f, bool flag, const uint32_t *values)
 {
-    static const unsigned arguments[] = { [BARE] = 0, [BYTE] = 1, [HALF] = 1, [HALVES] = 2, [SINGLES] = 2 };
     static const char *const endings[] = { "", ".25", ".5", ".75" };
     append_text(l, "%s%s", flag ? "+" : "", f->name);
     for (unsigned k = 0; k < arguments[f->layout]; k++) {
@@ -283,18 +286,53 @@ static void append_line(struct list *l, const struct form *f, bool flag, const u
     append_text(l, "\n");
 }
 
+static void append_byte(struct list *l, uint8_t byte)
+{
+    if (l->size >= ROOM) {
+        fprintf(stderr, "a stored list is too long\n");
+        exit(1);
+    }
+    l->bytes[l->size++] = byte;
+}
+
+/* A number in groups of seven bits, the lowest first, in as many groups as are asked for or in more where it needs them. */
+static void append_groups(struct list *l, uint64_t value, unsigned least)
+{
+    for (unsigned n = 1; n < least || value >= 128; n++) {
+        append_byte(l, (uint8_t)(value % 128 + 128));
+        value /= 128;
+    }
+    append_byte(l, (uint8_t)value);
+}
+
+static void append_stored(struct list *l, const struct form *f, uint32_t flag, const uint32_t *words)
+{
+    append_groups(l, f->opcode, 1);
+    append_groups(l, flag, 1);
+    for (unsigned k = 0; k < arguments[f->layout]; k++) append_groups(l, words[k], 1);
+}
+
+/* The arguments of a form laid out on the wire; those of goals are bits. */
+static void append_raw(struct list *l, const struct form *f, bool flag, const uint32_t *words)
+{
+    switch (f->layout) {
+    case BARE: append(l, f->opcode, flag, 2, 0, 0); break;
+    case BYTE: append(l, f->opcode, flag, 3, words[0] << 24, 0); break;
+    case HALF: append(l, f->opcode, flag, 3, words[0] << 16, 0); break;
+    case HALVES: append(l, f->opcode, flag, 3, words[0] << 16 | words[1], 0); break;
+    case SINGLES: append(l, f->opcode, flag, 4, words[0], words[1]); break;
+    }
+}
+
 static void append_typed(struct typed *t, const struct form *f, unsigned i)
 {
-    bool flag = f->flags == ALWAYS || (f->flags == EITHER && i % 2);
+    bool flag = f->flags == ALWAYS || (f->flags == EITHER && i % 2), goals = f->layout == SINGLES;
     uint32_t values[2] = { argument(f, 0, i), argument(f, 1, i) };
+    uint32_t words[2] = { goals ? goal_bits(values[0]) : values[0], goals ? goal_bits(values[1]) : values[1] };
     append_line(&t->text, f, flag, values);
-    switch (f->layout) {
-    case BARE: append(&t->raw, f->opcode, flag, 2, 0, 0); break;
-    case BYTE: append(&t->raw, f->opcode, flag, 3, values[0] << 24, 0); break;
-    case HALF: append(&t->raw, f->opcode, flag, 3, values[0] << 16, 0); break;
-    case HALVES: append(&t->raw, f->opcode, flag, 3, values[0] << 16 | values[1], 0); break;
-    case SINGLES: append(&t->raw, f->opcode, flag, 4, goal_bits(values[0]), goal_bits(values[1])); break;
-    }
+    append_raw(&t->raw, f, flag, words);
+    append_stored(&t->stored, f, flag, words);
+    t->count++;
 }
 
 /* The fifteen commands, far ones next to each other, so that few are a fair mixture too. */
@@ -312,15 +350,17 @@ static void bare_line(struct typed *t, unsigned i)
 
 /* One job on both sides. */
 enum which {
-    READ, WRITE, FRAME_READ, FRAME_WRITE, HOUSEKEEPING_READ, HOUSEKEEPING_WRITE, RUNS, SECONDS, ASSEMBLE, LISTING, INDEXING, LOOKING_UP, SHOWING
+    READ, WRITE, FRAME_READ, FRAME_WRITE, HOUSEKEEPING_READ, HOUSEKEEPING_WRITE, RUNS, SECONDS, ASSEMBLE, LISTING, INDEXING, LOOKING_UP, SHOWING,
+    TO_CARD, FROM_CARD
 };
 
 struct job {
     const char *name;
     enum which which;
-    struct list kit, pupil; /* of assembling, listing and indexing: the first list and the second; of housekeeping: the frames; of a look-up: the list */
+    struct list kit, pupil; /* of assembling, listing, indexing and cards: the first list and the second; of housekeeping: the frames; of a look-up: the
+                               list */
     struct offsets old;     /* of indexing: an earlier index of the first list; of a look-up: the index */
-    uint32_t each;          /* of housekeeping: bytes of each frame, or of its room; of indexing: places of the room for one list */
+    uint32_t each;          /* of housekeeping: bytes of each frame, or of its room; of indexing and cards: places of the room for one list */
     uint32_t number;        /* of a look-up, and of showing: the command's */
     uint8_t sender;         /* of showing */
     uint32_t units;         /* what one time counts for: commands of a run or of lists, seconds */
@@ -342,6 +382,13 @@ static uint64_t translate(enum which which, bool ours, const struct list *l, uin
         return ours ? timing_assemble(l->bytes, l->size, room, ROOM, times) : plain_assemble(l->bytes, l->size, room, ROOM, times);
     }
     return ours ? timing_list(l->bytes, l->size, room, ROOM, times) : plain_list(l->bytes, l->size, room, ROOM, times);
+}
+
+/* Moves these bytes to a card or from one. */
+static uint64_t moved(enum which which, bool ours, const struct list *l, uint8_t *room, uint32_t fits, uint32_t times)
+{
+    if (which == TO_CARD) return ours ? timing_to_card(l->bytes, l->size, room, fits, times) : plain_to_card(l->bytes, l->size, room, fits, times);
+    return ours ? timing_from_card(l->bytes, l->size, room, fits, times) : plain_from_card(l->bytes, l->size, room, fits, times);
 }
 
 static uint64_t do_job(const struct job *j, bool ours, struct room *r, uint32_t times)
@@ -379,6 +426,11 @@ static uint64_t do_job(const struct job *j, bool ours, struct room *r, uint32_t 
     case SHOWING:
         return ours ? timing_shown(j->kit.bytes, j->kit.size, j->pupil.bytes, j->pupil.size, j->sender, j->number, times)
                     : plain_shown(j->kit.bytes, j->kit.size, j->pupil.bytes, j->pupil.size, j->sender, j->number, times);
+    case TO_CARD:
+    case FROM_CARD: {
+        uint64_t sum = moved(j->which, ours, &j->kit, room, j->each, times);
+        return j->pupil.size == 0 ? sum : sum * 31 + moved(j->which, ours, &j->pupil, room + ROOM, j->each, times);
+    }
     default: {
         uint64_t sum = translate(j->which, ours, &j->kit, room, times);
         return j->pupil.size == 0 ? sum : sum * 31 + translate(j->which, ours, &j->pupil, room + ROOM, times);
@@ -669,6 +721,212 @@ static void compare_indexes(struct list l, const struct list *other)
     }
 }
 
+/* Moving a list to a card or from one, with so many bytes of room. */
+static struct job card_job(const char *name, enum which which, const struct list *l, uint32_t fits)
+{
+    return (struct job){ .name = name, .which = which, .kit = *l, .each = fits, .units = 1, .aim = 1.5 };
+}
+
+/* The first two numbers of a stored list, and these commands. */
+static struct list stored_list(uint32_t count, const struct list *commands)
+{
+    struct list l = { .size = 0 };
+    append_groups(&l, 1, 1);
+    append_groups(&l, count, 1);
+    for (size_t i = 0; i < commands->size; i++) append_byte(&l, commands->bytes[i]);
+    return l;
+}
+
+/* The same n commands to a card and from one, in one list or in two; where there are none, in one. */
+static void card_jobs(struct job *to, struct job *from, const struct filling *f, unsigned n)
+{
+    static struct typed lists[2];
+    memset(lists, 0, sizeof lists);
+    for (unsigned i = 0; i < n; i++) f->put(&lists[i / f->most], i);
+    *to = card_job("commands to a card", TO_CARD, &lists[0].raw, ROOM);
+    struct list stored = stored_list(lists[0].count, &lists[0].stored);
+    *from = card_job("commands from a card", FROM_CARD, &stored, ROOM);
+    if (lists[1].count > 0) {
+        to->pupil = lists[1].raw;
+        from->pupil = stored_list(lists[1].count, &lists[1].stored);
+    }
+    to->units = from->units = n;
+    check_made(to, from);
+    check_made(from, to);
+}
+
+/* A list moved with room enough, with as much as it takes, with one byte less and with none. */
+static void compare_rooms(const char *name, enum which which, const struct list *l, size_t taken)
+{
+    static struct job j;
+    const size_t rooms[] = { ROOM, taken, taken > 0 ? taken - 1 : 0, 0 };
+    for (unsigned i = 0; i < sizeof rooms / sizeof rooms[0]; i++) {
+        j = card_job(name, which, l, (uint32_t)rooms[i]);
+        compare(&j);
+    }
+}
+
+/* A list, and what is left of it where it is cut off, so many bytes apart. */
+static void compare_cut(const char *name, enum which which, struct list l, size_t apart)
+{
+    static struct job j;
+    for (;;) {
+        j = card_job(name, which, &l, ROOM);
+        compare(&j);
+        if (l.size < apart) return;
+        l.size -= apart;
+    }
+}
+
+/* A list with each byte changed to several others, or with another byte put in before it. */
+static void compare_changed(const char *name, enum which which, const struct list *l)
+{
+    static const uint8_t others[] = { 0, 1, 2, 9, 0x7e, 0x7f, 0x80, 0x81, 0xfe, 0xff };
+    static struct job j;
+    j = card_job(name, which, l, ROOM);
+    for (size_t at = 0; at <= l->size; at++) {
+        for (unsigned i = 0; i < sizeof others; i++) {
+            j.kit = *l;
+            memmove(j.kit.bytes + at + 1, l->bytes + at, l->size - at);
+            j.kit.bytes[at] = others[i];
+            j.kit.size++;
+            compare(&j);
+            if (at == l->size) continue;
+            j.kit = *l;
+            j.kit.bytes[at] = others[i];
+            compare(&j);
+            j.kit.bytes[at] = l->bytes[at] ^ (uint8_t)(1u << i % 8);
+            compare(&j);
+        }
+    }
+}
+
+/* Each form behind a good command and before another, as it is stored and on the wire, with one argument or both at their limits, one beside them, and
+   far off, and with every flag. */
+static void compare_arguments(void)
+{
+    static struct job j;
+    const uint32_t one[] = { 1, 1 };
+    for (unsigned i = 0; i < sizeof forms / sizeof forms[0]; i++) {
+        const struct form *f = &forms[i];
+        for (unsigned choice = 0; choice < 64; choice++) {
+            uint32_t words[2];
+            for (unsigned k = 0; k < 2; k++) {
+                uint32_t least = f->limits[k].least, most = f->layout == SINGLES ? 0x447fffff : f->limits[k].most;
+                const uint32_t values[] = { least, most, most + 1, least - 1, 0x80000000, 0x7fc00001, 256, 65536 };
+                words[k] = values[choice >> 3 * k & 7];
+            }
+            for (uint32_t flag = 0; flag <= 3; flag++) {
+                struct list l = { .size = 0 };
+                append_stored(&l, &forms[0], 0, one);
+                append_stored(&l, f, flag, words);
+                append_stored(&l, &forms[7], 1, one);
+                l = stored_list(3, &l);
+                j = card_job("any arguments from a card", FROM_CARD, &l, ROOM);
+                compare(&j);
+                l.size = 0;
+                append_raw(&l, &forms[0], false, one);
+                append_raw(&l, f, flag % 2 == 1, words);
+                append_raw(&l, &forms[7], true, one);
+                j = card_job("any arguments to a card", TO_CARD, &l, ROOM);
+                compare(&j);
+            }
+        }
+    }
+}
+
+/* A stored list of one command, whose numbers are these, one of them in so many groups. */
+static struct list with_number(unsigned which, uint64_t number, unsigned groups)
+{
+    uint64_t numbers[] = { 1, 1, 0x0150, 1, 3, 4 };
+    struct list l = { .size = 0 };
+    numbers[which] = number;
+    for (unsigned i = 0; i < sizeof numbers / sizeof numbers[0]; i++) append_groups(&l, numbers[i], i == which ? groups : 1);
+    return l;
+}
+
+/* Each number of a stored command in its turn is any number, in as many groups as it needs or in more, and is cut off anywhere. */
+static void compare_numbers(void)
+{
+    static const uint64_t numbers[] = {
+        0, 1, 2, 5, 127, 128, 0x0150, 0x0151, 16383, 16384, 65535, 65536, 0x10150, 2097152, 268435455, 268435456, 0x80000000, 0xffffffff, 0x100000000,
+        0x100000150, 0x7ffffffff, 0x800000000, 0x10000000000
+    };
+    for (unsigned which = 0; which < 6; which++) {
+        for (unsigned i = 0; i < sizeof numbers / sizeof numbers[0]; i++) {
+            for (unsigned groups = 1; groups <= 8; groups++) compare_cut("any number from a card", FROM_CARD, with_number(which, numbers[i], groups), 1);
+        }
+    }
+}
+
+/* Wrong lengths and pads on the wire, which no stored form can have; the sums are right. */
+static void compare_wire(void)
+{
+    static struct job j;
+    for (unsigned i = 0; i < sizeof forms / sizeof forms[0]; i++) {
+        for (unsigned n = 2; n <= 4; n++) {
+            for (unsigned bit = 0; bit < 32; bit++) {
+                struct list l = { .size = 0 };
+                append(&l, 0x015a, true, 2, 0, 0);
+                append(&l, forms[i].opcode, forms[i].flags == ALWAYS, n, 1u << bit, 1);
+                j = card_job("any length and pad to a card", TO_CARD, &l, ROOM);
+                compare(&j);
+            }
+        }
+    }
+}
+
+/* Stored lists whose raw ones are too long: bare commands, then mixed ones. Room or not, that comes before it; bytes left over, and a bad command
+   behind the last one that would fit, come before that. */
+static void compare_too_long(const struct filling *f, unsigned count)
+{
+    static struct typed t;
+    struct list l;
+    memset(&t, 0, sizeof t);
+    for (unsigned i = 0; i < count; i++) {
+        t.raw.size = t.text.size = 0; /* neither is asked for, and they would be too long */
+        f->put(&t, i);
+    }
+    l = stored_list(count, &t.stored);
+    compare_rooms("too many commands from a card", FROM_CARD, &l, LIST);
+    append_byte(&l, 0);
+    compare_rooms("too many commands and a byte from a card", FROM_CARD, &l, LIST);
+    compare_cut("too many commands cut off from a card", FROM_CARD, l, 37);
+    l = stored_list(count + 1, &t.stored);
+    append_byte(&l, 0);
+    compare_rooms("a bad command behind too many from a card", FROM_CARD, &l, LIST);
+    l = stored_list(count - 1, &t.stored);
+    compare_rooms("a command left over from a card", FROM_CARD, &l, LIST);
+}
+
+/* Lists both ways, good ones of some sizes and whatever may be refused. */
+static void compare_cards(void)
+{
+    static const unsigned sizes[] = { 0, 1, 2, 8, 15, 127, 128, 256, 512 };
+    static const struct filling *const fillings[] = { &mixed, &bare };
+    static struct job to, from;
+    struct list l = { .size = 0 };
+    for (unsigned i = 0; i < 2 * sizeof sizes / sizeof sizes[0]; i++) {
+        unsigned n = sizes[i / 2];
+        card_jobs(&to, &from, fillings[i % 2], n);
+        compare(&to);
+        compare(&from);
+        compare_rooms("a list to a card", TO_CARD, &to.kit, from.kit.size);
+        compare_rooms("a list from a card", FROM_CARD, &from.kit, to.kit.size);
+        compare_cut("a list cut off to a card", TO_CARD, to.kit, n <= 15 ? 1 : 37);
+        compare_cut("a list cut off from a card", FROM_CARD, from.kit, n <= 15 ? 1 : 37);
+        if (n > 15) continue;
+        compare_changed("a changed list to a card", TO_CARD, &to.kit);
+        compare_changed("a changed list from a card", FROM_CARD, &from.kit);
+    }
+    compare_arguments();
+    compare_numbers();
+    compare_wire();
+    compare_too_long(&bare, 513);
+    compare_too_long(&mixed, 512);
+    for (l.size = LIST - 1; l.size <= LIST + 4; l.size++) compare_rooms("a list of 4,096 bytes or so to a card", TO_CARD, &l, LIST);
+}
+
 /* How many records of a run have code 0. */
 static unsigned accepted(const struct job *j)
 {
@@ -708,7 +966,7 @@ static void print_growth(struct job *jobs, int n, const char *of, const char *he
     }
 }
 
-enum { ALL = 21, SIZES = 3 };
+enum { ALL = 25, SIZES = 3 };
 
 /* The lists of two listing jobs are indexed, the latter also from its first 511 commands; and one command of the latter is looked up, and shown by the
    walk. */
@@ -752,6 +1010,12 @@ static void make_jobs(struct job *jobs)
     jobs[14].name = "assembling 512 bare commands";
     jobs[15].name = "listing 512 bare commands";
     index_jobs(jobs + 16, &jobs[13], &jobs[15]);
+    card_jobs(&jobs[21], &jobs[22], &mixed, 512);
+    card_jobs(&jobs[23], &jobs[24], &bare, 512);
+    jobs[21].name = "512 mixed commands to a card";
+    jobs[22].name = "512 mixed commands from a card";
+    jobs[23].name = "512 bare commands to a card";
+    jobs[24].name = "512 bare commands from a card";
 }
 
 int main(int argc, char **argv)
@@ -768,6 +1032,7 @@ int main(int argc, char **argv)
     struct list bares = bare_list(INDEX), others = numbered_list();
     compare_indexes(bares, &others);
     compare_indexes(others, &bares);
+    compare_cards();
     for (int i = 0; i < SIZES; i++) {
         runs[i] = run_job("plain commands", plain_command, sizes[i]);
         runs[SIZES + i] = run_job("macro commands", macro_command, sizes[i]);
