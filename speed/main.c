@@ -859,7 +859,7 @@ static void compare_numbers(void)
     }
 }
 
-/* Wrong lengths and pads on the wire, which no stored form can have; the sums are right. */
+/* Other opcodes on the wire, and wrong lengths and pads, which no stored form can have; the sums are right. */
 static void compare_wire(void)
 {
     static struct job j;
@@ -870,6 +870,10 @@ static void compare_wire(void)
                 append(&l, 0x015a, true, 2, 0, 0);
                 append(&l, forms[i].opcode, forms[i].flags == ALWAYS, n, 1u << bit, 1);
                 j = card_job("any length and pad to a card", TO_CARD, &l, ROOM);
+                compare(&j);
+                l.size = 0;
+                append(&l, forms[i].opcode ^ 1u << bit % 16, bit >= 16, n, 0, 0);
+                j = card_job("any opcode to a card", TO_CARD, &l, ROOM);
                 compare(&j);
             }
         }
