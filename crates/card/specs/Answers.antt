@@ -43,7 +43,7 @@ pub record Result : Type 0 where
   pub answer : Answer
   pub room : List ℕ
 
--- Demand 1: "A refusal leaves .. every lent byte" as it was.
+-- Demand 1: "a refused call writes nothing into lent memory".
 abbrev pub refusedAs : Told → ℕ → List ℕ → Result
 refusedAs told number room = record { answer = answer told number 0; room = room }
 

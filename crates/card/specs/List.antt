@@ -60,7 +60,7 @@ headThen (refused told) next = bad 0 told
 unfoldable pub storedSays : List ℕ → Said
 storedSays s = headThen (countAt s) (λ count at. saidFrom count 1 s at)
 
--- What a raw list says, from its rests (01, "Two lists, one report"), of which the first has this number; its end plays no part.
+-- A command that was read, in front of what the rest says; or what is told of one that was refused.
 abbrev pub nextTold : Told → List Command → ℕ → Said → Said
 nextTold told [] number rest = bad number told
 nextTold told (c ∷ cs) number rest = onto c rest
@@ -68,9 +68,11 @@ nextTold told (c ∷ cs) number rest = onto c rest
 abbrev pub rawNext : Answer → ℕ → Said → Said
 rawNext a number rest = nextTold (a .told) (a .taken) number rest
 
+-- A raw list as each of its commands finds it (01, "Two lists, one report"), of which the first has this number; where it ends plays no part.
 unfoldable pub rawFrom : ℕ → List (List ℕ) → Said
 rawFrom number [] = said [] 0
 rawFrom number (s ∷ ss) = rawNext (readOf s) number (rawFrom (suc number) ss)
 
+-- What a raw list says.
 unfoldable pub rawSays : List ℕ → Said
 rawSays s = rawFrom 1 (rests s)
