@@ -3,14 +3,14 @@
 use Prim.Native.Nat.{ℕ, suc, _^_, _≤_, _<_}
 use mathlib.Core.Path.{_≡_, refl, sym, ap, _∙_}
 use mathlib.Core.List.{List, [], _∷_, _++_}
-use mathlib.Core.Bool.{Bool, true, false, cond, not}
+use mathlib.Core.Bool.{Bool, true, false, cond}
 use native.Mathlib.Omega.{arith}
 use lib.ListN.{length, take, drop, length-append}
 use lib.Seq.{take-all, take-at}
 use lib.Dec.{ltb, eqb}
 use borrow.Author.Tests.{eq-eqb, eqb-true, eqb-false, le-leb, le-ltb, leb-true, ltb-false, not-false}
 use Rattle.words.specs.BigEndian.{hasRoom}
-use Rattle.words.specs.Codes.{Check, _when_, firstOf}
+use Rattle.words.specs.Codes.{Check, firstOf}
 use Rattle.words.proofs.Front.{Bytes}
 use Rattle.words.proofs.Order.{order}
 use Rattle.wire.specs.declared.kinds.Command.{Command}
@@ -19,7 +19,7 @@ use Rattle.wire.specs.Read.{readOf}
 use Rattle.wire.specs.Write.{listBytes}
 use Rattle.walk.specs.Walk.{rests}
 use Rattle.card.specs.List.{storedBytes, Said, said, bad, onto, storedSays, nextTold, rawFrom, rawSays}
-use Rattle.card.specs.Answers.{answer, Result, refusedAs, putUnless, storedBy, toCard, endChecks, rawBy, fromCard}
+use Rattle.card.specs.Answers.{answer, Result, refusedAs, putUnless, tooSmall, storedBy, toCard, endChecks, rawBy, fromCard}
 use Rattle.card.proofs.Lists.{listed, listed-back, raw-listed, raw-back, raw-few, not-bad, said-same}
 use Rattle.card.proofs.Coded.{CodedSaid, stored-coded, raw-coded}
 
@@ -45,6 +45,33 @@ put-taken checks bytes room e = go (eqb (firstOf checks) 0) refl e
         → (firstOf checks ≡ 0) × (cond b (done bytes room) (refusedAs (plain (firstOf checks)) 0 room) ≡ done bytes room)
     go true is e = (eqb-true (firstOf checks) 0 is, refl)
     go false is e = absurd (eqb-false (firstOf checks) 0 is e)
+
+-- Demand 1: a call that is refused leaves every byte of its room as it was.
+put-leaves : (checks : List Check) (bytes room : List ℕ) → (taken (putUnless checks bytes room) → ⊥) → putUnless checks bytes room .room ≡ room
+put-leaves checks bytes room h = go (eqb (firstOf checks) 0) h
+  where
+    go : (b : Bool) → (taken (cond b (done bytes room) (refusedAs (plain (firstOf checks)) 0 room)) → ⊥)
+        → cond b (done bytes room) (refusedAs (plain (firstOf checks)) 0 room) .room ≡ room
+    go true h = absurd (h refl)
+    go false h = refl
+
+pub to-card-leaves : (s room : List ℕ) → (taken (toCard s room) → ⊥) → toCard s room .room ≡ room
+unfolding toCard
+to-card-leaves s room h = go (ltb 4096 (length s)) (rawSays s) h
+  where
+    go : (b : Bool) (x : Said) → (taken (cond b (refusedAs (plain 20) 0 room) (storedBy x room)) → ⊥)
+        → cond b (refusedAs (plain 20) 0 room) (storedBy x room) .room ≡ room
+    go true x h = refl
+    go false (bad number told) h = refl
+    go false (said cs end) h = put-leaves (tooSmall (storedBytes cs) room ∷ []) (storedBytes cs) room h
+
+pub from-card-leaves : (s room : List ℕ) → (taken (fromCard s room) → ⊥) → fromCard s room .room ≡ room
+unfolding fromCard
+from-card-leaves s room h = go (storedSays s) h
+  where
+    go : (x : Said) → (taken (rawBy (length s) x room) → ⊥) → rawBy (length s) x room .room ≡ room
+    go (bad number told) h = refl
+    go (said cs end) h = put-leaves (endChecks (length s) cs end room) (listBytes cs) room h
 
 -- A raw list that was stored: its commands, and what the call left.
 pub record ToCard (s room : List ℕ) : Type 0 where
@@ -75,8 +102,8 @@ to-card-taken s room e = go (ltb 4096 (length s)) refl e
     inner : (x : Said) → rawSays s ≡ x → CodedSaid x → ltb 4096 (length s) ≡ false → taken (storedBy x room) → ToCard s room
     inner (bad number told) is coded short e = absurd (coded e)
     inner (said cs end) is coded short e =
-        let p = put-taken (24 when not (hasRoom (storedBytes cs) room) ∷ []) (storedBytes cs) room e in
-        let none = order (24 when not (hasRoom (storedBytes cs) room) ∷ []) refl .accepted .0 (p .0) in
+        let p = put-taken (tooSmall (storedBytes cs) room ∷ []) (storedBytes cs) room e in
+        let none = order (tooSmall (storedBytes cs) room ∷ []) refl .accepted .0 (p .0) in
         let ends : rawSays s ≡ said cs 0 = is ∙ ap (said cs) (raw-end 1 (rests s) cs end is) in
         record {
           cs = cs;
