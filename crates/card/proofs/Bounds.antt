@@ -76,7 +76,7 @@ commands-short (c ∷ cs) (some held allowed good) =
           (listBytes cs),
     )
 
--- "A stored list is never longer than its raw one plus the first two numbers", which have five bytes each at most.
+-- A stored list is never longer than its raw one and the first two numbers, which have five bytes each at most.
 pub stored-short : (cs : List Command) → Good cs → length (storedBytes cs) ≤ length (listBytes cs) + 10
 unfolding storedBytes
 stored-short cs good =

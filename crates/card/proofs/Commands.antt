@@ -61,7 +61,7 @@ fine c allowed =
     (rows .0) in
     record { one = in-limits .0; two = in-limits .1; flags = rows .1 }
 
--- Numbers within limits that are of 32 bits are themselves.
+-- Numbers within limits of 32 bits are of 32 bits themselves.
 limits-small : (layout : Layout) (low high v : ℕ) → high < 2 ^ 32 → inLimits layout low high v ≡ true → v < 2 ^ 32
 limits-small layout low high v most e = go layout e
   where

@@ -1,4 +1,4 @@
--- How much of a stored list is looked at: "reading it visits each byte at most once". A number is read by `number_at`, whose loop has one turn for each byte
+-- How much of a stored list is looked at: each byte once at most. A number is read by `number_at`, whose loop has one turn for each byte
 -- that it looks at (its measure is how many of them are left); and each number begins where the one before it ended.
 use Prim.Native.Nat.{ℕ, zero, suc, _+_, _-_, _≤_}
 use mathlib.Core.Path.{_≡_, refl, sym}
