@@ -1,17 +1,12 @@
-// One command in its stored form: opcode, flag and arguments, each a number. Read: at each number 34 and 35, then at once 5, 38 or 8; 9 or 10 behind the last.
-ghost use Prim.Native.Nat.{_+_, _≤_};
+// One stored command read: opcode, flag and arguments, each a number. At each 34 and 35, then at once 5, 38 or 8; 9 or 10 behind the last.
 ghost use mathlib.Core.Path.{_≡_};
-ghost use lib.ListN.{length};
-ghost use lib.Seq.{sets};
 ghost use Rattle.wire.specs.Table.{ruleOf};
 ghost use Rattle.wire.specs.Kind.{partsWith};
-ghost use Rattle.wire.specs.Write.{flagBit};
-ghost use Rattle.card.specs.Command.{argumentsIn, numbersBytes, storedCommand, argumentAt, argumentsAt, flagAt, flagged, behindOpcode, commandAt};
+ghost use Rattle.card.specs.Command.{argumentAt, argumentsAt, flagAt, flagged, behindOpcode, commandAt};
 ghost use Rattle.card.specs.Steps.{gotNumber, gotArguments, gotCommand};
 use super::answers::Fault;
 use super::number::Number;
 use super::number::number_at;
-use super::number::put_number;
 use wire::Form;
 use wire::Found;
 use wire::Judged;
@@ -136,49 +131,4 @@ pub fn command_at(s: &[u8], at: usize) -> Stored
             Found::Known(form, _) => behind_opcode(s, next, form),
         },
     }
-}
-
-// A flag as a number.
-fn bit_of(flag: bool) -> u32
-    ensures { λ r. ⌜ r ≡ flagBit flag ⌝ }
-{
-    if flag { 1 } else { 0 }
-}
-
-// Writes so many of two arguments into a room, from a place on, and says which place comes next.
-fn put_arguments(room: &mut [u8], at: usize, many: usize, first: u32, second: u32) -> usize
-    requires { ⌜ at + length (numbersBytes (argumentsIn many first second)) ≤ length (now room) ⌝ }
-    ensures { λ r. ⌜ r ≡ at + length (numbersBytes (argumentsIn many first second)) ⌝ }
-    ensures { λ r. ⌜ now (room .exit) ≡ sets (now (room .entry)) at (numbersBytes (argumentsIn many first second)) ⌝ }
-{
-    if many < 1 {
-        return at;
-    }
-    let next = put_number(room, at, first);
-    if many < 2 {
-        return next;
-    }
-    put_number(room, next, second)
-}
-
-// Writes a command into a room, from a place on, and says which place comes next.
-pub fn put_command(room: &mut [u8], at: usize, command: wire::Command) -> usize
-    requires { ⌜ at + length (storedCommand command) ≤ length (now room) ⌝ }
-    ensures { λ r. ⌜ r ≡ at + length (storedCommand command) ⌝ }
-    ensures { λ r. ⌜ now (room .exit) ≡ sets (now (room .entry)) at (storedCommand command) ⌝ }
-{
-    let kind = command.kind;
-    let parts = wire::parts_of(kind);
-    let form = parts.form;
-    let row = wire::row_of(form);
-    let layout = row.layout;
-    let flag_at = put_number(room, at, row.opcode as u32);
-    let arguments_at = put_number(room, flag_at, bit_of(command.flag));
-    put_arguments(
-        room,
-        arguments_at,
-        wire::arguments_of(layout),
-        parts.first,
-        parts.second,
-    )
 }

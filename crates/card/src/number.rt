@@ -1,9 +1,6 @@
-// One number in groups of seven bits, lowest first, the high bit set on all but the last, never a group more than needed.
-ghost use Prim.Native.Nat.{_+_, _≤_};
+// One number read: groups of seven bits, lowest first, the high bit set on all but the last, never a group more than needed (34, 35).
 ghost use mathlib.Core.Path.{_≡_};
-ghost use lib.ListN.{length};
-ghost use lib.Seq.{sets};
-ghost use Rattle.card.specs.Number.{numberBytes, numberAt};
+ghost use Rattle.card.specs.Number.{numberAt};
 ghost use Rattle.card.specs.Steps.{gotNumber, longerAs, closedAs};
 use super::answers::Fault;
 
@@ -15,15 +12,6 @@ pub enum Number {
 
 // The high bit of a byte, which says that another group follows; and how much more each group counts than the one before it.
 const MORE: u64 = 128;
-
-// What one group can say is below this; and what two, three and four can.
-const ONE_GROUP: u32 = 128;
-
-const TWO_GROUPS: u32 = 16_384;
-
-const THREE_GROUPS: u32 = 2_097_152;
-
-const FOUR_GROUPS: u32 = 268_435_456;
 
 // How many groups stand before the last that a number of 32 bits may have.
 const MOST_BEFORE: usize = 4;
@@ -86,40 +74,4 @@ pub fn number_at(s: &[u8], at: usize) -> Number
         i += 1;
     }
     Number::Bad(Fault::Ended)
-}
-
-// How many bytes a number takes.
-pub fn number_length(value: u32) -> usize
-    ensures { λ r. ⌜ r ≡ length (numberBytes value) ⌝ }
-{
-    if value < ONE_GROUP {
-        return 1;
-    }
-    if value < TWO_GROUPS {
-        return 2;
-    }
-    if value < THREE_GROUPS {
-        return 3;
-    }
-    if value < FOUR_GROUPS {
-        return 4;
-    }
-    5
-}
-
-// Writes a number into a room, from a place on, and says which place comes next.
-pub fn put_number(room: &mut [u8], at: usize, value: u32) -> usize
-    requires { ⌜ at + length (numberBytes value) ≤ length (now room) ⌝ }
-    ensures { λ r. ⌜ r ≡ at + length (numberBytes value) ⌝ }
-    ensures { λ r. ⌜ now (room .exit) ≡ sets (now (room .entry)) at (numberBytes value) ⌝ }
-{
-    let mut left = value;
-    let mut i = at;
-    while ONE_GROUP <= left {
-        room[i] = (left % ONE_GROUP + ONE_GROUP) as u8;
-        left /= ONE_GROUP;
-        i += 1;
-    }
-    room[i] = left as u8;
-    i + 1
 }

@@ -3,8 +3,8 @@ use native.Mathlib.Omega.{arith}
 use borrow.Author.Needs.{needs}
 use Rattle.card.proofs.Numbers.{Grouping, none-grouped, group-place, one-grouped, last-grouped, last-place}
 use borrow.Author.Needs.{needs}
-use Rattle.card.proofs.number.put_number.Statement.{statement}
-use Rattle.card.proofs.number.put_number.Tie as tie
+use Rattle.card.proofs.storing.put_number.Statement.{statement}
+use Rattle.card.proofs.storing.put_number.Tie as tie
 
 abbrev Inv-loop : tie.InvT-loop
 Inv-loop room₀ at value left₀ i₀ room left i = Grouping value at room₀ room left i

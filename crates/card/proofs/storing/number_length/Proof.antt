@@ -3,8 +3,8 @@ use Prim.Native.Nat.{_/_}
 use native.Mathlib.Omega.{arith}
 use borrow.Author.Tests.{lt-ltb, le-ltb}
 use Rattle.card.specs.Number.{groupsIn, numberBytes}
-use Rattle.card.proofs.number.number_length.Statement.{statement}
-use Rattle.card.proofs.number.number_length.Tie as tie
+use Rattle.card.proofs.storing.number_length.Statement.{statement}
+use Rattle.card.proofs.storing.number_length.Tie as tie
 
 returns : tie.Need-returns
 unfolding groupsIn numberBytes

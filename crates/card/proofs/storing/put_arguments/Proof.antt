@@ -6,8 +6,8 @@ use mathlib.Core.Path.{subst}
 use Prim.Native.Nat.{_+_, _≤_}
 use lib.ListN.{length}
 use borrow.Author.Needs.{needs}
-use Rattle.card.proofs.command.put_arguments.Statement.{statement}
-use Rattle.card.proofs.command.put_arguments.Tie as tie
+use Rattle.card.proofs.storing.put_arguments.Statement.{statement}
+use Rattle.card.proofs.storing.put_arguments.Tie as tie
 
 returns : tie.Need-returns
 returns c =

@@ -10,8 +10,8 @@ use Rattle.card.specs.Command.{argumentsIn, numbersBytes}
 use Rattle.card.proofs.Stores.{put-both, put-as, fits-front, fits-rest}
 use Rattle.card.proofs.Packing.{stored-is}
 use borrow.Author.Needs.{needs}
-use Rattle.card.proofs.command.put_command.Statement.{statement}
-use Rattle.card.proofs.command.put_command.Tie as tie
+use Rattle.card.proofs.storing.put_command.Statement.{statement}
+use Rattle.card.proofs.storing.put_command.Tie as tie
 
 parts-of-requires : tie.Need-parts-of-requires
 parts-of-requires c κs = search needs
