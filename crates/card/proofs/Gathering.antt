@@ -14,6 +14,7 @@ use borrow.Rule.Slice.PartMut.{putMid}
 use Rattle.words.specs.BigEndian.{written, hasRoom}
 use Rattle.words.proofs.Front.{Bytes}
 use Rattle.words.proofs.Laws.{no-room, part-written}
+use Rattle.words.proofs.Stores.{front-more}
 use Rattle.wire.specs.declared.kinds.Command.{Command}
 use Rattle.wire.specs.Kind.{partsOf}
 use Rattle.wire.specs.Judge.{plain, judgeCode}
@@ -29,7 +30,7 @@ use Rattle.card.specs.Command.{commandAt}
 use Rattle.card.specs.List.{Said, bad, nextSaid, saidFrom, countAt, headThen, storedSays}
 use Rattle.card.specs.Answers.{toldFault, answer, rawBy, fromCard}
 use Rattle.card.specs.Steps.{noRoom, gotNumber, gotCommand, endAfter, bufferAfter, Kept, All, AsSaid}
-use Rattle.card.proofs.Stores.{part-sets, front-more}
+use Rattle.card.proofs.Stores.{part-sets}
 use Rattle.card.proofs.Commands.{TakenCommand, taken-command}
 use Rattle.card.proofs.Packing.{behind, behind-more, behind-said, behind-bad, Answers}
 

@@ -11,6 +11,7 @@ use lib.Dec.{ltb}
 use borrow.Author.Tests.{le-leb, lt-leb, lt-ltb, le-ltb}
 use Rattle.words.proofs.Front.{Bytes}
 use Rattle.words.proofs.Laws.{with-room, sets-written}
+use Rattle.words.proofs.Stores.{front-more}
 use Rattle.wire.specs.declared.table.Row.{Row}
 use Rattle.wire.specs.declared.kinds.Command.{Command}
 use Rattle.wire.specs.declared.kinds.Parts.{Parts}
@@ -35,7 +36,6 @@ use Rattle.card.specs.List.{storedCommands, storedBytes, Said, said, bad
 use Rattle.card.specs.Answers.{Result, storedBy, toCard}
 use Rattle.card.specs.Answers as answers
 use Rattle.card.specs.Steps.{noRoom, Packs, AsPacked}
-use Rattle.card.proofs.Stores.{front-more}
 use Rattle.card.proofs.Commands.{drop-bytes}
 use Rattle.card.proofs.Lists.{RawTaken, raw-taken}
 use Rattle.card.proofs.Bounds.{command-short}

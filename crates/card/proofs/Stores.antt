@@ -7,7 +7,7 @@ use native.Mathlib.Nat.{add-zero}
 use lib.ListN.{length, take, drop, length-append, length-drop}
 use Rattle.words.specs.Text.{storedAt}
 use borrow.Author.Tests.{le-leb}
-use lib.Seq.{sets, sets-eq, length-sets, take-at, length-take-le, drop-drop}
+use lib.Seq.{sets, sets-eq, length-sets, drop-drop}
 use borrow.Rule.Slice.PartMut.{putMid}
 use Rattle.words.specs.BigEndian.{written}
 use Rattle.words.proofs.Laws.{with-room, part-written, sets-append}
@@ -20,13 +20,6 @@ part-sets p bytes room part fits put =
     ∙ ap (λ l. take p room ++ l) (with-room bytes (drop p room) (omega (arith, length-drop p room)))
     ∙ rw drop-drop (sym (append-assoc (take p room) bytes (drop (p + length bytes) room)))
     ∙ sym (sets-eq bytes room p fits)
-
--- The front of a room to which some bytes came.
-pub front-more : (room : List ℕ) (at : ℕ) (xs : List ℕ) → at + length xs ≤ length room → take (at + length xs) (sets room at xs) ≡ take at room ++ xs
-front-more room at xs fits =
-    ap (take (at + length xs)) (sets-eq xs room at fits)
-    ∙ take-at (take at room ++ xs) (drop (at + length xs) room) (at + length xs)
-    (length-append (take at room) xs ∙ omega (arith, length-take-le at room (omega arith)))
 
 -- Bytes that were put from a place on, and the place behind them.
 abbrev pub PutAs : List ℕ → ℕ → List ℕ → ℕ → List ℕ → Type 0

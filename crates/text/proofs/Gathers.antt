@@ -6,14 +6,14 @@ use mathlib.Core.Bool.{Bool, true, false, cond, not}
 use native.Mathlib.Omega.{arith}
 use native.Mathlib.Numerals.{add-one}
 use lib.ListN.{length, take, drop, length-append, drop-of-length-le}
-use lib.Seq.{sets, sets-eq, length-sets, take-at, length-take-le}
+use lib.Seq.{sets, length-sets, length-take-le}
 use lib.Dec.{eqb, leb, ltb}
 use borrow.Author.Tests.{le-ltb, lt-ltb, ltb-false, eq-eqb}
 use borrow.Rule.Slice.PartMut.{putMid}
 use Rattle.words.specs.BigEndian.{hasRoom, written}
 use Rattle.words.specs.Text.{storedAt}
 use Rattle.words.specs.Codes.{_when_}
-use Rattle.words.proofs.Stores.{stored-fits, no-store, part-stored}
+use Rattle.words.proofs.Stores.{stored-fits, no-store, part-stored, front-more}
 use Rattle.wire.specs.declared.kinds.Command.{Command}
 use Rattle.wire.specs.declared.judging.Told.{Told}
 use Rattle.wire.specs.Judge.{judgeCode}
@@ -138,12 +138,6 @@ gathering-none text buffer =
       same = refl;
       front = λ h. refl;
     }
-
-front-more : (room : List ℕ) (at : ℕ) (xs : List ℕ) → at + length xs ≤ length room → take (at + length xs) (sets room at xs) ≡ take at room ++ xs
-front-more room at xs fits =
-    ap (take (at + length xs)) (sets-eq xs room at fits)
-    ∙ take-at (take at room ++ xs) (drop (at + length xs) room) (at + length xs)
-    (length-append (take at room) xs ∙ omega (arith, length-take-le at room (omega arith)))
 
 -- A judgement that is no list leaves nothing to say of the buffer.
 no-list : (text buffer : List ℕ) (j : Translated) → translatedOf j ≡ judgedText text → eqb (translatedOf j .found .told .code) 0 ≡ false → Gathered text buffer j

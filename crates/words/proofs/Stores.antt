@@ -5,7 +5,7 @@ use mathlib.Core.List.{List, [], _∷_, _++_, append-assoc}
 use mathlib.Core.Bool.{Bool, true, false, cond}
 use native.Mathlib.Omega.{arith}
 use lib.ListN.{length, set, take, drop, length-append, length-drop, take-append-drop}
-use lib.Seq.{sets, length-sets, sets-eq, set-comm, drop-drop}
+use lib.Seq.{sets, length-sets, sets-eq, set-comm, take-at, length-take-le, drop-drop}
 use borrow.Author.Tests.{le-leb, lt-leb, leb-true, leb-false}
 use borrow.Rule.Slice.PartMut.{putMid}
 use Rattle.words.specs.BigEndian.{hasRoom, written}
@@ -44,6 +44,13 @@ module _ (at : ℕ) (bytes room : List ℕ) (within : at ≤ length room) where
       go false short =
           let less : length room < at + length bytes = leb-false _ _ short in
           rw (no-room bytes (drop at room) (omega (arith, length-drop at room))) (take-append-drop at room)
+
+-- The front of a room to which some bytes came.
+pub front-more : (room : List ℕ) (at : ℕ) (xs : List ℕ) → at + length xs ≤ length room → take (at + length xs) (sets room at xs) ≡ take at room ++ xs
+front-more room at xs fits =
+    ap (take (at + length xs)) (sets-eq xs room at fits)
+    ∙ take-at (take at room ++ xs) (drop (at + length xs) room) (at + length xs)
+    (length-append (take at room) xs ∙ omega (arith, length-take-le at room (omega arith)))
 
 -- A byte behind others may be stored before them.
 pub set-before : (room : List ℕ) (p : ℕ) (xs : List ℕ) (q x : ℕ) → p + length xs ≤ q → sets (set room q x) p xs ≡ set (sets room p xs) q x
