@@ -24,7 +24,7 @@ use Rattle.wire.specs.Judge.{toldOf, flagChecks}
 use Rattle.wire.specs.Read.{Answer, answerOf, opcodeOf, flagOf, lengthOf, thirdWord, sumDiffers}
 use Rattle.wire.specs.Read.{reachChecks, reachCode, decodeChecks, readChecks, readCode, readOf, spanOf}
 use Rattle.wire.proofs.Answers.{refusal-code, Reaches, reaches}
-use Rattle.wire.proofs.Local.{reached, read-own, span-own}
+use Rattle.wire.proofs.Local.{reached, reads-on, read-own, span-own}
 use Rattle.walk.proofs.Spans.{span-passed}
 use Rattle.rescue.specs.Pieces.{passes, passing}
 
@@ -89,7 +89,7 @@ passing-eight s is =
 
 -- What a reading answers says whether the command passes.
 module _ (s : List ℕ) where
-  read-code : passes (readOf s .told .code) ≡ passing s
+  pub read-code : passes (readOf s .told .code) ≡ passing s
   unfolding passing readOf
   read-code = refl
 
@@ -107,6 +107,11 @@ module _ (s : List ℕ) where
     ten-passes h =
         let some : eqb (told .code) 0 ≡ false = ap (λ (t : Told). eqb (t .code) 0) is ∙ refusal-code r in
         sym (rw (some, ne-eqb (told .code) 9 h)) ∙ by-code
+
+-- It passes whatever follows it.
+pub passing-on : (s t : List ℕ) → passing s ≡ true → passing (s ++ t) ≡ true
+passing-on s t is =
+    sym (read-code (s ++ t)) ∙ rw (reads-on s t (reaches s (passing-reaches s is))) (read-code s ∙ is)
 
 -- A command by itself that passes, and takes all its bytes.
 pub record Whole (bs : List ℕ) : Type 0 where

@@ -5,13 +5,14 @@ use mathlib.Core.List.{List, [], _∷_, _++_}
 use mathlib.Core.Bool.{Bool, true, false, cond, _||_}
 use native.Mathlib.Omega.{arith}
 use lib.ListN.{length, take, drop, length-append, take-append-drop}
-use lib.Seq.{length-take-le}
-use lib.Dec.{eqb, ltb}
-use borrow.Author.Tests.{eq-eqb, eqb-true, eqb-false, le-ltb, ltb-false}
+use lib.Seq.{take-all, length-take-le}
+use lib.Dec.{eqb, leb, ltb}
+use borrow.Author.Tests.{eq-eqb, eqb-true, eqb-false, le-ltb, ltb-true, ltb-false, leb-true, leb-false}
 use Rattle.words.specs.BigEndian.{wordAt}
 use Rattle.words.specs.Codes.{Check, _when_, firstOf}
 use Rattle.words.proofs.Laws.{half-on, word-on}
 use Rattle.words.proofs.Order.{FirstAt, none-due}
+use Rattle.words.proofs.Tests.{neither}
 use Rattle.wire.specs.declared.kinds.Command.{Command}
 use Rattle.wire.specs.declared.kinds.Parts.{Parts}
 use Rattle.wire.specs.Judge.{plain}
@@ -131,6 +132,36 @@ read-on s t not-1 not-3 = go (eqb (readCode s) 2) refl
     go : (b : Bool) → eqb (readCode s) 2 ≡ b → readOf (s ++ t) ≡ readOf s
     go true is = out-on s t (eqb-true (readCode s) 2 is)
     go false is = reads-on s t (reaches s (reached s not-1 (eqb-false (readCode s) 2 is) not-3))
+
+-- So no reading looks at more than 128 bytes, as many as the longest command has: it answers the same of the first 128.
+module _ (s : List ℕ) where
+  abbrev front : List ℕ
+  front = take 128 s
+
+  cut-not : 128 ≤ length s → readCode front ≡ 3 → ⊥
+  cut-not long e =
+      let row : FirstAt (readChecks front) 2 = read-order front .placed 2 (omega arith) .0 e in
+      let bounds = neither (ltb (lengthOf front) 2) (ltb 32 (lengthOf front)) (row .before .1 .0) in
+      omega (
+        arith,
+        ltb-false 32 (lengthOf front) (bounds .1),
+        ltb-true (length front) (lengthOf front * 4) (row .due),
+        length-take-le 128 s long,
+      )
+
+  few-not : 128 ≤ length s → readCode front ≡ 1 → ⊥
+  few-not long e =
+      let row : FirstAt (readChecks front) 0 = read-order front .placed 0 (omega arith) .0 e in
+      omega (arith, ltb-true (length front) 8 (row .due), length-take-le 128 s long)
+
+  pub read-128 : readOf (take 128 s) ≡ readOf s
+  read-128 = go (leb 128 (length s)) refl
+    where
+      go : (b : Bool) → leb 128 (length s) ≡ b → readOf front ≡ readOf s
+      go true is =
+          let long = leb-true 128 (length s) is in
+          sym (read-on front (drop 128 s) (few-not long) (cut-not long)) ∙ ap readOf (take-append-drop 128 s)
+      go false is = ap readOf (take-all 128 s (omega (arith, leb-false 128 (length s) is)))
 
 -- A command that codes 1 to 3 pass, and its own 4L bytes.
 module _ (s : List ℕ) (passed : reachCode s ≡ 0) where
