@@ -18,6 +18,7 @@ pub mod outline;
 pub mod pictures;
 pub mod programs;
 pub mod replay;
+pub mod rescue;
 pub mod run;
 pub mod text;
 pub mod typed;

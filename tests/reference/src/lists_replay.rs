@@ -1,13 +1,16 @@
 //! The replay program for what is done to lists without a bench: a script of items in, a
-//! transcript of their answers out. So far its items are about the stored form and the index.
+//! transcript of their answers out. Its items are about the stored form, the rescue and the
+//! index.
 
 use crate::card::{from_card, to_card};
 use crate::codes::code_and_finding;
 use crate::index::{found, index};
-use crate::replay::{rest_line, transcript_by, with_bytes, written_lines, Script};
+use crate::replay::{self, rest_line, transcript_by, with_bytes, written_lines, Script};
+use crate::rescue::{rescue, Stretch, Written, STRETCH_BYTES};
 
 pub const TO_CARD: u8 = 0x00;
 pub const FROM_CARD: u8 = 0x01;
+pub const RESCUE: u8 = 0x02;
 pub const INDEX: u8 = 0x03;
 pub const LOOK_UP: u8 = 0x04;
 
@@ -27,10 +30,27 @@ pub fn item(script: &mut Script) -> Option<String> {
     match script.byte()? {
         TO_CARD => written_lines("stored", to_card, script),
         FROM_CARD => written_lines("raw", from_card, script),
+        RESCUE => rescued_lines(script),
         INDEX => index_lines(script),
         LOOK_UP => found_line(script),
         _ => None,
     }
+}
+
+/// Both rooms hold bytes. The stretches are told as they stand in the second one.
+fn rescued_lines(script: &mut Script) -> Option<String> {
+    let (mut room, mut beside) = (script.room()?, script.room()?);
+    let answer = rescue(script.long_part()?, &mut room, &mut beside);
+    let (code, _) = code_and_finding(&answer);
+    let Written { kept, stretches } = answer.unwrap_or_default();
+    let words = format!("rescued {code} {kept} {stretches}");
+    let mut lines = with_bytes(&words, &room[..kept]);
+    for bytes in beside.chunks_exact(STRETCH_BYTES).take(stretches) {
+        lines += &Stretch::read(bytes).line();
+    }
+    lines += &rest_line(&room, replay::ROOM_FILL, kept);
+    lines += &rest_line(&beside, replay::ROOM_FILL, STRETCH_BYTES * stretches);
+    Some(lines)
 }
 
 /// Offsets whose number stands before them in two bytes.

@@ -1,5 +1,5 @@
-//! The programs for typed lists and for lists on a card: what each writes to
-//! standard output and to standard error for its whole input.
+//! The programs for typed lists, for lists on a card and for damaged ones: what each
+//! writes to standard output and to standard error for its whole input.
 
 use std::io::{Read, Write};
 
@@ -7,6 +7,7 @@ use crate::bench::Bench;
 use crate::card::{raw_form, stored_form};
 use crate::codes::{Finding, Placed, OUT_OF_RANGE};
 use crate::list::{kit_list, report_lines};
+use crate::rescue::{rescued, Stretch};
 use crate::text::{commands_typed, raw_list, text_of};
 use crate::typed::typed_records;
 
@@ -104,6 +105,21 @@ fn from_list(made: Result<impl Into<Vec<u8>>, Placed>) -> Streams {
     match made {
         Err(placed) => Streams::errors(refused(&placed, "number")),
         Ok(bytes) => Streams::output(bytes),
+    }
+}
+
+/// A damaged list in, the commands kept out, and a line about each stretch skipped where
+/// it spoils no file.
+pub fn rescue_list(list: &[u8]) -> Streams {
+    match rescued(list) {
+        Err(refusal) => Streams::errors(refused(&refusal.into(), "number")),
+        Ok(rescued) => {
+            let lines: String = rescued.stretches.iter().map(Stretch::line).collect();
+            Streams {
+                output: rescued.kept,
+                errors: lines.into(),
+            }
+        }
     }
 }
 

@@ -65,7 +65,7 @@ impl<'a> Script<'a> {
     }
 
     /// A room as long as the script says, up to the limit.
-    fn room(&mut self) -> Option<Vec<u8>> {
+    pub(crate) fn room(&mut self) -> Option<Vec<u8>> {
         let length = self.half()?.min(LARGEST_ROOM);
         Some(vec![ROOM_FILL; length])
     }

@@ -1,7 +1,7 @@
 //! Small scripts for the replay program for lists, with the transcript each must give,
 //! written by hand.
 
-use reference::comparison::items::{from_card, index, look_up, to_card};
+use reference::comparison::items::{from_card, index, look_up, rescue, to_card};
 use reference::lists_replay::transcript;
 use reference::wire::bytes_of;
 
@@ -69,6 +69,63 @@ fn rooms_of_bytes_above_13000_count_as_13000() {
     }
 }
 
+/// A byte, two flushes and three bytes more.
+fn damaged() -> Vec<u8> {
+    [vec![0], list()].concat()
+}
+
+#[test]
+fn a_list_rescued() {
+    let items = [
+        rescue(16, 8, &damaged()),
+        rescue(17, 9, &damaged()),
+        rescue(8, 0, &list()[..8]),
+        rescue(0, 4, &[0xff; 300]),
+        rescue(0, 0, &[]),
+    ];
+    let two = "rescued 0 16 2 015a0002015a0002015a0002015a0002\nskipped 0 1\nskipped 17 3\n";
+    let same = "rest same\nrest same\n";
+    let expected = [
+        two,
+        same,
+        two,
+        same,
+        "rescued 0 8 0 015a0002015a0002\n",
+        same,
+        "rescued 0 0 1\nskipped 0 300\n",
+        same,
+        "rescued 0 0 0\n",
+        same,
+    ];
+    assert_eq!(answer(&items), expected.concat());
+}
+
+#[test]
+fn a_rescue_refused() {
+    let rooms = [[15, 8], [16, 7], [15, 7], [0, 13_000], [13_000, 0], [0, 0]];
+    for [room, beside] in rooms {
+        let expected = "rescued 24 0 0\nrest same\nrest same\n";
+        assert_eq!(answer(&[rescue(room, beside, &damaged())]), expected);
+    }
+    for [room, beside] in [[4096, 1824], [0, 0], [0, 4], [8, 0]] {
+        let expected = "rescued 20 0 0\nrest same\nrest same\n";
+        assert_eq!(answer(&[rescue(room, beside, &[0; 4097])]), expected);
+    }
+}
+
+#[test]
+fn both_rooms_of_a_rescue_above_13000_count_as_13000() {
+    for room in [4096, 13_000, 13_001, 65_535] {
+        let items = [
+            rescue(room, 8, &list()[..9]),
+            rescue(8, room, &list()[..9]),
+            rescue(room, room, &list()[..9]),
+        ];
+        let one = "rescued 0 8 1 015a0002015a0002\nskipped 8 1\nrest same\nrest same\n";
+        assert_eq!(answer(&items), one.repeat(3));
+    }
+}
+
 #[test]
 fn an_index_built() {
     let items = [
@@ -112,9 +169,11 @@ fn by_its_bytes() {
     script.extend([0, 0, 0, 2]);
     script.extend([0, 0, 5, 0, 8, 1, 0x5a, 0, 2, 1, 0x5a, 0, 2]);
     script.extend([1, 0, 8, 0, 5, 1, 1, 0xda, 2, 0]);
+    script.extend([2, 0, 8, 0, 4, 0, 9, 7, 1, 0x5a, 0, 2, 1, 0x5a, 0, 2]);
     let expected = "indexed 0 2 0 8\nrest same\nfound 01\n\
                     stored 0 0 0 0 0 0 0101da0200\nrest same\n\
-                    raw 0 0 0 0 0 0 015a0002015a0002\nrest same\n";
+                    raw 0 0 0 0 0 0 015a0002015a0002\nrest same\n\
+                    rescued 0 8 1 015a0002015a0002\nskipped 0 1\nrest same\nrest same\n";
     assert_eq!(transcript(&script), expected);
 }
 
@@ -162,13 +221,14 @@ fn six_hundred_offsets_are_read_and_one_more_is_bad() {
 fn scripts_that_end_badly() {
     assert_eq!(answer(&[]), "");
     let good = look_up(&[], &[], 1);
-    for first in (2..=255).filter(|first| *first != 3 && *first != 4) {
+    for first in 5..=255 {
         let items = [good.clone(), vec![first], good.clone()];
         assert_eq!(answer(&items), "found\nbad script\n", "{first}");
     }
     for item in [
         to_card(9, &list()),
         from_card(9, &[1, 0]),
+        rescue(16, 9, &damaged()),
         index(9, &[0, 8], &list()),
         look_up(&[0], &list(), 1),
     ] {

@@ -1,7 +1,8 @@
 //! The random comparison of the replay programs, a list program, the programs for
-//! typed lists and for lists on a card and a cases program with the reference, and of
-//! the replay programs' answers with each other. Exits with 0 when nothing differs and every code occurred,
-//! with 1 when not, and with 2 when it was not told what to compare.
+//! typed lists, for lists on a card and for damaged ones and a cases program with the
+//! reference, and of the replay programs' answers with each other. Exits with 0 when nothing
+//! differs and every code occurred, with 1 when not, and with 2 when it was not told what
+//! to compare.
 
 use std::process::ExitCode;
 use std::time::Instant;
@@ -15,25 +16,28 @@ use reference::comparison::options::{Options, USAGE};
 use reference::comparison::program::Program;
 use reference::comparison::report::{answered, item_of_line, report, report_disagreement, Differs};
 use reference::comparison::rng::Rng;
-use reference::comparison::shrink::{commands, lines, numbers};
+use reference::comparison::salvages::{self, Answers, Salvage};
+use reference::comparison::shrink::{bytes, commands, lines, numbers};
 use reference::comparison::tally::{grouped, Tally};
 use reference::comparison::trips::{self, Trip};
 use reference::comparison::{fixed, fixed_dark, fixed_range, inputs, random, sums};
 use reference::comparison::{fixed_cards, random_cards};
 use reference::comparison::{fixed_evenings, random_evenings};
 use reference::comparison::{fixed_growths, fixed_index, random_index};
+use reference::comparison::{fixed_rescues, random_rescues};
 use reference::list::listing;
 use reference::lists_replay;
 use reference::pictures::answers;
-use reference::programs::{assembler, from_card, lister, to_card, typed};
+use reference::programs::{assembler, from_card, lister, rescue_list, to_card, typed};
 use reference::replay::{self, Replay, Script};
 use reference::run::LONGEST_LIST;
 
 /// How much was sent and compared: scripts to the replay programs and the lines
 /// of their answers, lists to the list program, inputs to the programs for typed
-/// lists and for lists on a card, and sums to the cases program; and lists split over
-/// two evenings and over three, lists that grow, and lists that go to a card or come off
-/// it and come back, whose scripts and answers are among the others.
+/// lists, for lists on a card and for damaged ones, and sums to the cases program; and lists
+/// split over two evenings and over three, lists that grow, lists that go to a card or come
+/// off it and come back, and damaged lists that are rescued and rescued again, whose
+/// scripts and answers are among the others.
 #[derive(Default)]
 struct Sent {
     scripts: u64,
@@ -45,6 +49,7 @@ struct Sent {
     triples: usize,
     growths: usize,
     trips: usize,
+    salvages: usize,
 }
 
 impl Sent {
@@ -53,11 +58,12 @@ impl Sent {
         let (lists, inputs) = (self.lists, self.inputs);
         let [sums, pairs, triples] =
             [self.sums, self.pairs, self.triples].map(|it| grouped(it as u64));
-        let [growths, trips] = [self.growths, self.trips].map(|it| grouped(it as u64));
+        let [growths, trips, salvages] =
+            [self.growths, self.trips, self.salvages].map(|it| grouped(it as u64));
         format!(
             "{lists} lists, {inputs} inputs, {sums} sums, \
              {pairs} pairs and {triples} triples of evenings, {growths} growing lists, \
-             {trips} lists there and back"
+             {trips} lists there and back, {salvages} lists rescued twice"
         )
     }
 }
@@ -74,6 +80,9 @@ const CARD_STREAM: u64 = 8 << 32;
 const TRIP_STREAM: u64 = 9 << 32;
 const TO_CARD_STREAM: u64 = 10 << 32;
 const FROM_CARD_STREAM: u64 = 11 << 32;
+const RESCUE_STREAM: u64 = 12 << 32;
+const SALVAGE_STREAM: u64 = 13 << 32;
+const RESCUE_LIST_STREAM: u64 = 14 << 32;
 
 /// A program that takes scripts, and what is expected of it.
 struct Taker<'a> {
@@ -125,13 +134,16 @@ fn main() -> ExitCode {
 fn compare_all(options: &Options, tally: &mut Tally) -> Result<Sent, Differs> {
     let mut sent = compare_scripts(options, tally)?;
     sent.lists = compare_lists(options)?;
-    sent.inputs = compare_typed_lists(options)? + compare_cards(options)?;
+    sent.inputs = compare_typed_lists(options)?;
+    sent.inputs += compare_cards(options)? + compare_damaged_lists(options)?;
     sent.sums = compare_sums(options)?;
     compare_evenings(options, tally, &mut sent)?;
     compare_index_scripts(options, tally, &mut sent)?;
     compare_growths(options, tally, &mut sent)?;
     compare_card_scripts(options, tally, &mut sent)?;
     compare_trips(options, tally, &mut sent)?;
+    compare_rescue_scripts(options, tally, &mut sent)?;
+    compare_salvages(options, tally, &mut sent)?;
     Ok(sent)
 }
 
@@ -306,6 +318,46 @@ fn compare_trips(options: &Options, tally: &mut Tally, sent: &mut Sent) -> Resul
     Ok(())
 }
 
+/// Fixed items about the rescue of damaged lists, then random ones.
+fn compare_rescue_scripts(
+    options: &Options,
+    tally: &mut Tally,
+    sent: &mut Sent,
+) -> Result<(), Differs> {
+    let mut rng = Rng::stream(options.seed, RESCUE_STREAM);
+    let mut scripts = fixed_rescues::scripts();
+    scripts.extend(random_rescues::scripts(&mut rng, options.rescues));
+    for script in scripts {
+        compare_script(&lists_taker(options), &script, tally, sent)?;
+    }
+    Ok(())
+}
+
+/// Fixed and random damaged lists that are rescued and run; what the program kept of them is
+/// rescued again and run too. All answers are compared with the reference, like those of any
+/// script, and then with each other.
+fn compare_salvages(options: &Options, tally: &mut Tally, sent: &mut Sent) -> Result<(), Differs> {
+    let mut rng = Rng::stream(options.seed, SALVAGE_STREAM);
+    let mut all = fixed_rescues::salvages();
+    all.extend((0..options.rescues).map(|_| random_rescues::salvage(&mut rng)));
+    sent.salvages = all.len();
+    let taker = lists_taker(options);
+    for batch in batches(all, Salvage::script_bytes) {
+        let items: Vec<Item> = batch.iter().map(Salvage::item).collect();
+        let rescues = compare_script(&taker, &items, tally, sent)?;
+        let kept = salvages::kept_lists(&batch, &rescues);
+        let again = compare_script(&taker, &salvages::again(&kept), tally, sent)?;
+        let items = salvages::runs(&batch, &kept);
+        let runs = compare_script(&replay_taker(options), &items, tally, sent)?;
+        let mut answers = Answers::new(&rescues, &again, &runs);
+        let differing = batch
+            .iter()
+            .find(|one| salvages::disagreement(one, &mut answers).is_some());
+        differing.map_or(Ok(()), |one| Err(report_salvage(options, one)))?;
+    }
+    Ok(())
+}
+
 fn compare_lists(options: &Options) -> Result<usize, Differs> {
     let mut rng = Rng::stream(options.seed, LIST_STREAM);
     let mut lists = vec![
@@ -376,6 +428,20 @@ fn compare_cards(options: &Options) -> Result<usize, Differs> {
         pieces: numbers,
     };
     Ok(compare_inputs(&storing, &raw_lists)? + compare_inputs(&reading, &stored_lists)?)
+}
+
+/// The program for damaged lists, both streams of it.
+fn compare_damaged_lists(options: &Options) -> Result<usize, Differs> {
+    let mut rng = Rng::stream(options.seed, RESCUE_LIST_STREAM);
+    let mut lists = fixed_rescues::inputs();
+    lists.extend(random_rescues::inputs(&mut rng, options.inputs));
+    let subject = Subject {
+        input: "damaged list",
+        program: &options.rescue_list,
+        expected: |list| rescue_list(list).in_words(),
+        pieces: bytes,
+    };
+    compare_inputs(&subject, &lists)
 }
 
 /// All sums in one input, a line for each.
@@ -454,4 +520,25 @@ fn report_trip(program: &Program, trip: &Trip) -> Differs {
     let mut items = vec![smallest.out()];
     items.extend(both(&smallest).map_or(Vec::new(), |(back, _)| back));
     report_disagreement(&items, show(&smallest), "about the way back")
+}
+
+/// The same for a damaged list of which the answers do not fit together.
+fn report_salvage(options: &Options, salvage: &Salvage) -> Differs {
+    println!("answers about a damaged list differ, the items for both replay programs:");
+    let all = |salvage: &Salvage| {
+        let one = std::slice::from_ref(salvage);
+        let rescues = options.lists_replay.answer(&salvage.item()).ok()?;
+        let kept = salvages::kept_lists(one, &rescues);
+        Some((salvages::again(&kept), salvages::runs(one, &kept), rescues))
+    };
+    let show = |salvage: &Salvage| {
+        let (again, runs, rescues) = all(salvage)?;
+        let again = options.lists_replay.answer(&again.concat()).ok()?;
+        let runs = options.replay.answer(&runs.concat()).ok()?;
+        salvages::disagreement(salvage, &mut Answers::new(&rescues, &again, &runs))
+    };
+    let smallest = salvage.smallest(&mut |fewer| show(fewer).is_some());
+    let mut items = vec![smallest.item()];
+    items.extend(all(&smallest).map_or(Vec::new(), |(again, runs, _)| [again, runs].concat()));
+    report_disagreement(&items, show(&smallest), "about the damaged list")
 }

@@ -23,7 +23,7 @@ const ROOM: u16 = 4096;
 const ROOMS: [u16; 11] = [0, 1, 2, 3, 4095, 4096, 4097, 12_999, 13_000, 13_001, 65_535];
 
 /// A command for each of the codes 1 to 10.
-fn bad(code: u8) -> Vec<u8> {
+pub(super) fn bad(code: u8) -> Vec<u8> {
     match code {
         1 => vec![1, 0x5a, 0, 2, 1],
         2 => bytes_of(&[0x015a_0001, 0x015a_0001]),
@@ -128,7 +128,7 @@ fn values() -> Vec<Vec<u8>> {
         .collect()
 }
 
-fn set_of(row: &Row, place: usize, value: u32) -> (Kind, [u32; 2]) {
+pub(super) fn set_of(row: &Row, place: usize, value: u32) -> (Kind, [u32; 2]) {
     let mut set = good(row);
     set[place] = value;
     (row.kind, set)
@@ -166,7 +166,7 @@ fn full_lists() -> Vec<Vec<Command>> {
 }
 
 /// Every command with each flag that it may have.
-fn each_command() -> Vec<Command> {
+pub(super) fn each_command() -> Vec<Command> {
     let each = TABLE.iter().flat_map(|row| {
         [false, true].map(|flag| Command::new(fitting_flag(row.kind, flag), row.kind, good(row)))
     });
@@ -174,7 +174,7 @@ fn each_command() -> Vec<Command> {
 }
 
 /// Allowed lists of none, one, several and as many commands as can be.
-fn allowed_lists() -> Vec<Vec<Command>> {
+pub(super) fn allowed_lists() -> Vec<Vec<Command>> {
     let each = each_command();
     let mut lists = vec![Vec::new(), each.clone()];
     lists.extend(each.iter().map(|one| vec![*one]));

@@ -261,7 +261,7 @@ fn bad_scripts() -> Vec<Vec<Item>> {
     for item in [index(4, &too_many, &[]), look_up(&too_many, &[], 1)] {
         ends.push(vec![item, good.clone()]);
     }
-    let firsts = [0x02, 0x05, 0x06, 0x13, 0x80, 0x81, 0x83, 0x84, 0xff];
+    let firsts = [0x05, 0x06, 0x13, 0x80, 0x81, 0x82, 0x83, 0x84, 0xff];
     for first in firsts {
         ends.push(vec![vec![first], good.clone()]);
         ends.push(vec![vec![first, 0, 0, 0, 0], good.clone()]);

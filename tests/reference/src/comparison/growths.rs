@@ -165,7 +165,7 @@ fn pairs(
     Ok(pairs)
 }
 
-fn next<'a>(lines: &mut Lines<'a>) -> Result<&'a str, Disagreement> {
+pub(super) fn next<'a>(lines: &mut Lines<'a>) -> Result<&'a str, Disagreement> {
     let no_line = || Disagreement::new("an answer to every item", "(no line)");
     lines.next().ok_or_else(no_line)
 }

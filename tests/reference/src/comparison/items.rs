@@ -2,7 +2,7 @@
 //! allowed or not.
 
 use crate::command::{Command, Kind};
-use crate::lists_replay::{FROM_CARD, INDEX, LOOK_UP, TO_CARD};
+use crate::lists_replay::{FROM_CARD, INDEX, LOOK_UP, RESCUE, TO_CARD};
 use crate::replay::{
     ASSEMBLE, COMMAND, DECODED, FRAME, FRESH, HOUSEKEEPING, LINE, LIST, PASSED, READ, RUN, SECOND,
     SHOWN, STATUS, TAGS, TYPED,
@@ -142,6 +142,15 @@ pub fn from_card(room: u16, stored: &[u8]) -> Item {
     let mut item = vec![FROM_CARD];
     item.extend(room.to_be_bytes());
     long_part(&mut item, stored);
+    item
+}
+
+/// The first room is for the commands, the one beside it for the stretches.
+pub fn rescue(room: u16, beside: u16, list: &[u8]) -> Item {
+    let mut item = vec![RESCUE];
+    item.extend(room.to_be_bytes());
+    item.extend(beside.to_be_bytes());
+    long_part(&mut item, list);
     item
 }
 

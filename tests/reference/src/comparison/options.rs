@@ -5,8 +5,8 @@ use super::program::Program;
 
 pub const USAGE: &str = "usage: compare --replay \"CMD\" --list \"CMD\" \
     --typed \"CMD\" --assemble \"CMD\" --lister \"CMD\" --cases \"CMD\" --lists_replay \"CMD\" \
-    --to_card \"CMD\" --from_card \"CMD\" [--seed N] [--lists N] [--inputs N] [--sums N] \
-    [--evenings N] [--indexes N] [--cards N] [--answers N]";
+    --to_card \"CMD\" --from_card \"CMD\" --rescue_list \"CMD\" [--seed N] [--lists N] \
+    [--inputs N] [--sums N] [--evenings N] [--indexes N] [--cards N] [--rescues N] [--answers N]";
 
 pub struct Options {
     pub replay: Program,
@@ -18,11 +18,12 @@ pub struct Options {
     pub lists_replay: Program,
     pub to_card: Program,
     pub from_card: Program,
+    pub rescue_list: Program,
     pub seed: u64,
     /// How many random lists are sent, besides those of 0, 4,096 and 4,097 bytes.
     pub lists: usize,
-    /// How many random inputs each program for typed lists and for lists on a card gets,
-    /// besides the fixed ones.
+    /// How many random inputs each program for typed lists, for lists on a card and for
+    /// damaged ones gets, besides the fixed ones.
     pub inputs: usize,
     /// How many random sums the cases program is asked for, besides the fixed ones.
     pub sums: usize,
@@ -35,6 +36,9 @@ pub struct Options {
     /// How many random lists go to a card or come off it and come back, and how often a
     /// few random ones of any sort do either, besides the fixed ones.
     pub cards: usize,
+    /// How many random damaged lists are rescued, and how many more are rescued, and what
+    /// was kept of them is again, besides the fixed ones.
+    pub rescues: usize,
     /// How many transcript lines are to be compared at least.
     pub answers: u64,
 }
@@ -46,6 +50,7 @@ const DEFAULT_SUMS: usize = 400;
 const DEFAULT_EVENINGS: usize = 600;
 const DEFAULT_INDEXES: usize = 600;
 const DEFAULT_CARDS: usize = 600;
+const DEFAULT_RESCUES: usize = 600;
 const DEFAULT_ANSWERS: u64 = 240_000;
 
 /// The same options while it is not yet known whether all have been given.
@@ -60,6 +65,7 @@ struct Given {
     lists_replay: Option<Program>,
     to_card: Option<Program>,
     from_card: Option<Program>,
+    rescue_list: Option<Program>,
     seed: Option<u64>,
     lists: Option<usize>,
     inputs: Option<usize>,
@@ -67,6 +73,7 @@ struct Given {
     evenings: Option<usize>,
     indexes: Option<usize>,
     cards: Option<usize>,
+    rescues: Option<usize>,
     answers: Option<u64>,
 }
 
@@ -83,6 +90,7 @@ impl Given {
             "--lists_replay" => self.lists_replay = Program::new(value),
             "--to_card" => self.to_card = Program::with_errors(value),
             "--from_card" => self.from_card = Program::with_errors(value),
+            "--rescue_list" => self.rescue_list = Program::with_errors(value),
             "--seed" => self.seed = Some(value.parse().ok()?),
             "--lists" => self.lists = Some(value.parse().ok()?),
             "--inputs" => self.inputs = Some(value.parse().ok()?),
@@ -90,6 +98,7 @@ impl Given {
             "--evenings" => self.evenings = Some(value.parse().ok()?),
             "--indexes" => self.indexes = Some(value.parse().ok()?),
             "--cards" => self.cards = Some(value.parse().ok()?),
+            "--rescues" => self.rescues = Some(value.parse().ok()?),
             "--answers" => self.answers = Some(value.parse().ok()?),
             _ => return None,
         }
@@ -113,6 +122,7 @@ impl Options {
             lists_replay: given.lists_replay?,
             to_card: given.to_card?,
             from_card: given.from_card?,
+            rescue_list: given.rescue_list?,
             seed: given.seed.unwrap_or(DEFAULT_SEED),
             lists: given.lists.unwrap_or(DEFAULT_LISTS),
             inputs: given.inputs.unwrap_or(DEFAULT_INPUTS),
@@ -120,12 +130,13 @@ impl Options {
             evenings: given.evenings.unwrap_or(DEFAULT_EVENINGS),
             indexes: given.indexes.unwrap_or(DEFAULT_INDEXES),
             cards: given.cards.unwrap_or(DEFAULT_CARDS),
+            rescues: given.rescues.unwrap_or(DEFAULT_RESCUES),
             answers: given.answers.unwrap_or(DEFAULT_ANSWERS),
         })
     }
 
     /// Every program that is to be started.
-    pub fn programs(&self) -> [&Program; 9] {
+    pub fn programs(&self) -> [&Program; 10] {
         [
             &self.replay,
             &self.list,
@@ -136,6 +147,7 @@ impl Options {
             &self.lists_replay,
             &self.to_card,
             &self.from_card,
+            &self.rescue_list,
         ]
     }
 }

@@ -219,7 +219,7 @@ fn good_command(rng: &mut Rng) -> Command {
 }
 
 /// A room that just suffices, is one short or one longer, or any.
-fn room_near(rng: &mut Rng, needed: usize) -> u16 {
+pub(super) fn room_near(rng: &mut Rng, needed: usize) -> u16 {
     let room = match rng.below(12) {
         0 => needed.saturating_sub(1),
         1..=3 => needed,

@@ -28,6 +28,11 @@ pub fn numbers(stored: &[u8]) -> Vec<Item> {
     numbers.map(|number| number.to_vec()).collect()
 }
 
+/// A damaged list in pieces, a byte to each: nobody can tell where its commands begin.
+pub fn bytes(list: &[u8]) -> Vec<Item> {
+    list.iter().map(|byte| vec![*byte]).collect()
+}
+
 /// Counts the tries and asks whether a script still shows the difference.
 struct Trial<'a> {
     differs: &'a mut dyn FnMut(&[Item]) -> bool,

@@ -61,7 +61,7 @@ fn codes_in(line: &str) -> Vec<u8> {
     let words: Vec<&str> = line.split(' ').collect();
     let places: &[usize] = match words[0] {
         "command" | "run" | "assembled" | "listed" | "typed" | "housekeeping" | "indexed"
-        | "stored" | "raw" => &[1],
+        | "stored" | "raw" | "rescued" => &[1],
         "frame" => &[1, 2],
         "read" | "decoded" | "tags" => &[1, 6],
         "record" => return record_code(words.get(1)).into_iter().collect(),

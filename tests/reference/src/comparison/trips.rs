@@ -152,7 +152,7 @@ fn is_refusal(code: &str) -> bool {
     code.parse().is_ok_and(|code: u8| code != ACCEPTED)
 }
 
-fn bytes_in(digits: &str) -> Option<Vec<u8>> {
+pub(super) fn bytes_in(digits: &str) -> Option<Vec<u8>> {
     let places = (0..digits.len()).step_by(2);
     places
         .map(|at| u8::from_str_radix(digits.get(at..at + 2)?, 16).ok())
