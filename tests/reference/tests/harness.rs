@@ -375,6 +375,7 @@ fn codes_are_counted_wherever_a_line_shows_one() {
     tally.add("assembled 30 2 0 0 0 0\nlisted 33 1 0 0 0 0\ntyped 31 1 0 0 0 0 0 0\nline 6162\n");
     tally.add("housekeeping 24\ntags 47\ntags 0 1 2 50 9 21\nhousekeeping 0 32 49 48 50 12\n");
     tally.add("stored 20 0 0 0 0 0\nraw 34 1 0 0 0 0\nraw 38 35 36 37 32 54\nfound 36\n");
+    tally.add("rescued 24 0 0\nrescued 0 35 37\nskipped 35 36\n");
     let missing = [
         1, 2, 3, 4, 6, 7, 8, 10, 12, 13, 14, 15, 16, 17, 18, 23, 25, 26, 32, 35, 36, 37, 48, 49,
         50, 54,

@@ -476,6 +476,12 @@ fn fixed_rooms_just_suffice_and_are_one_short_either_or_both() {
             }
         }
     }
+}
+
+#[test]
+fn fixed_rooms_are_none_and_larger_than_can_be() {
+    let sent = fixed_items();
+    let one = [&flushes(1)[..], &[0xff], &flushes(1)].concat();
     for [room, beside] in [
         [0, 0],
         [16, 0],

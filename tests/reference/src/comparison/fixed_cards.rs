@@ -62,7 +62,7 @@ fn raw_lists() -> Vec<Vec<u8>> {
 
 /// Lists of every length where something changes, of flushes, zeros and ones; and so many
 /// flushes that their number needs another group.
-fn lengths() -> Vec<Vec<u8>> {
+pub(super) fn lengths() -> Vec<Vec<u8>> {
     let mut lists = Vec::new();
     for length in (0..=17).chain([4088, 4089, 4095, 4096, 4097, 4104, 8192, 40_000]) {
         lists.extend([flushes(length), vec![0; length], vec![0xff; length]]);
@@ -72,7 +72,7 @@ fn lengths() -> Vec<Vec<u8>> {
 }
 
 /// Each code at the first command, at the last, and between, in lists of few and of many.
-fn every_code() -> Vec<Vec<u8>> {
+pub(super) fn every_code() -> Vec<Vec<u8>> {
     let mut lists = Vec::new();
     for code in 1..=10 {
         for before in [0, 1, 2, 3, 300] {
@@ -84,7 +84,7 @@ fn every_code() -> Vec<Vec<u8>> {
 }
 
 /// Each code before each, of which the first in the list is told.
-fn two_codes() -> Vec<Vec<u8>> {
+pub(super) fn two_codes() -> Vec<Vec<u8>> {
     let mut lists = Vec::new();
     for first in 1..=10 {
         for second in 1..=10 {

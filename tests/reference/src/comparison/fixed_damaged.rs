@@ -2,7 +2,7 @@
 //! put in and taken out everywhere, with noise between lists, with commands within others, and
 //! with stretches of every number and length.
 
-use super::fixed_cards::{bad, set_of};
+use super::fixed_cards::{bad, every_code, lengths, set_of, two_codes};
 use super::fixed_index::flushes;
 use super::fixed_wire::{faulty, flush, of_length};
 use super::items::raw;
@@ -11,10 +11,7 @@ use crate::command::{Kind, TABLE};
 use crate::run::LONGEST_LIST;
 use crate::wire::{bytes_of, FLAG_BIT, LENGTH_BITS};
 
-/// The bytes of a flush and of a byte before it.
-const NOISE_AND_FLUSH: usize = 9;
-/// As many stretches as a list can have: a byte, then a flush and a byte for as long as there
-/// is room.
+/// As many stretches as a list can have: one byte each, with a flush between each two.
 pub(super) const MOST_STRETCHES: usize = 456;
 
 /// What is put in somewhere. 01 may well begin a command.
@@ -47,6 +44,7 @@ pub fn lists() -> Vec<Vec<u8>> {
     let mut lists = lengths();
     lists.extend(every_code());
     lists.extend(two_codes());
+    lists.extend(neighbours());
     lists.extend(faults());
     lists.extend(limits());
     lists.extend(bytes_broken());
@@ -66,35 +64,11 @@ pub fn astray() -> Vec<Vec<u8>> {
     lists
 }
 
-/// Lists of every length where something changes, of flushes, zeros and ones.
-fn lengths() -> Vec<Vec<u8>> {
-    let mut lists = Vec::new();
-    for length in (0..=17).chain([4088, 4089, 4095, 4096, 4097, 4104, 8192, 40_000]) {
-        lists.extend([flushes(length), vec![0; length], vec![0xff; length]]);
-    }
-    lists
-}
-
-/// Each code at the first command, at the last, and between.
-fn every_code() -> Vec<Vec<u8>> {
-    let mut lists = Vec::new();
-    for code in 1..=10 {
-        for before in 0..3 {
-            let start = [flush().repeat(before), bad(code)].concat();
-            lists.extend([0, 1, 3].map(|behind| [&start[..], &flush().repeat(behind)].concat()));
-        }
-    }
-    lists
-}
-
-/// Each code before each, with nothing between them, and with a flush.
-fn two_codes() -> Vec<Vec<u8>> {
+/// Each code right before each, so that their stretches are one.
+fn neighbours() -> Vec<Vec<u8>> {
     let mut lists = Vec::new();
     for first in 1..=10 {
-        for second in 1..=10 {
-            lists.push([bad(first), bad(second), flush()].concat());
-            lists.push([bad(first), flush(), bad(second)].concat());
-        }
+        lists.extend((1..=10).map(|second| [bad(first), bad(second), flush()].concat()));
     }
     lists
 }
@@ -182,8 +156,8 @@ fn lengths_broken() -> Vec<Vec<u8>> {
     lists
 }
 
-/// Two lists with none to twelve bytes between them, before both and behind them: zeros,
-/// ones, and bytes that look like a command's.
+/// Two lists with none to twelve bytes between them, and one with as many on either side:
+/// zeros, ones, and bytes that look like a command's.
 fn noise() -> Vec<Vec<u8>> {
     let list = whole().concat();
     let sorts = [vec![0; 12], vec![0xff; 12], flush().repeat(2)];
@@ -217,8 +191,8 @@ fn commands_within() -> Vec<Vec<u8>> {
     lists
 }
 
-/// Goals that are a flush, word by word and beginning at their second byte; a region that is
-/// the first half of one.
+/// Goals that hold a flush, at a word and beside one; a region that holds the first half of
+/// one.
 fn outer_commands() -> [Vec<u8>; 3] {
     [
         raw(true, Kind::TrkGoal, [0x015a_0002, 0x015a_0002]),
@@ -227,8 +201,8 @@ fn outer_commands() -> [Vec<u8>; 3] {
     ]
 }
 
-/// Commands that claim as many words as they may, and that nobody takes: with others among
-/// these words, and with others behind them.
+/// Commands that claim more words than they should: with others among these words, and with
+/// fewer words than they claim.
 fn covering() -> Vec<Vec<u8>> {
     let long = of_length(Kind::TlmFlush.row(), 0, 32);
     let first = bytes_of(&[0x0117_0003, 0x015a_0002]);
@@ -249,12 +223,9 @@ fn covering() -> Vec<Vec<u8>> {
     lists
 }
 
-/// A byte, then a flush, so often, with another byte behind the last; cut to what a list may
-/// have.
+/// So many bytes that are skipped, with a flush between each two.
 pub fn stretches_of_one(count: usize) -> Vec<u8> {
-    let mut list = [&[0x99][..], &flush()].concat().repeat(count);
-    list.truncate(LONGEST_LIST.min(NOISE_AND_FLUSH * count - flush().len()));
-    list
+    vec![[0x99]; count].join(&flush()[..])
 }
 
 /// So many bytes that are skipped, between flushes that fill the list up to its end.
