@@ -3,6 +3,7 @@
 use super::cards;
 use super::cards::Way;
 use super::indexes;
+use super::rescues;
 use script::Place;
 
 // Takes one item.
@@ -12,6 +13,7 @@ pub fn item(place: Place, s: &[u8], out: &mut [u8]) -> Place {
     match words::byte_at(s, first.from) {
         0 => cards::move_list(place, s, out, Way::ToCard),
         1 => cards::move_list(place, s, out, Way::FromCard),
+        2 => rescues::rescue_list(place, s, out),
         3 => indexes::build(place, s, out),
         4 => indexes::look_up(place, s, out),
         _ => place.bad(out),

@@ -4,6 +4,7 @@ mod cards;
 mod indexes;
 mod items;
 mod offsets;
+mod rescues;
 
 use script::Place;
 use script::output;
