@@ -12,6 +12,7 @@ mod lists;
 mod making;
 mod notation;
 mod reading;
+mod rescues;
 mod rooms;
 mod say;
 mod setting;
@@ -44,18 +45,20 @@ fn framed(line: &[u8], s: &[u8]) {
     }
 }
 
-// Verbs of lists on a card, and else those of frames.
+// Verbs of lists on a card and of damaged ones, and else those of frames.
 fn moved(line: &[u8], s: &[u8]) {
     if lines::begins(line, b"save ") {
         cards::save(s);
     } else if lines::begins(line, b"load ") {
         cards::load(s);
+    } else if lines::begins(line, b"rescue ") {
+        rescues::rescue_list(s);
     } else {
         framed(line, s);
     }
 }
 
-// Verbs of indexes, and else those of lists on a card.
+// Verbs of indexes, and else those of lists on a card and of damaged ones.
 fn indexed(line: &[u8], s: &[u8]) {
     if lines::begins(line, b"index ") {
         indexes::build(s);
