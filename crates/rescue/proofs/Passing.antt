@@ -1,5 +1,5 @@
 -- Which commands pass: those of which no row of 1 to 8 is due. And what the reader's answer says of it.
-use Prim.Native.Nat.{ℕ, _≤_}
+use Prim.Native.Nat.{ℕ, _≤_, _<_}
 use mathlib.Core.Path.{_≡_, refl, sym, ap, _∙_}
 use mathlib.Core.Logic.{_↔_, _≢_}
 use mathlib.Core.List.{List, [], _∷_, _++_}
@@ -86,6 +86,18 @@ passing-eight s is =
     let r = reaches s whole in
     let long = span-passed s whole in
     (omega arith, omega arith)
+
+-- Nor has it more than 32 words: what reaches further does not pass.
+pub none-longer : (s : List ℕ) → 128 < spanOf s → false ≡ passing s
+none-longer s long = go (passing s) refl
+  where
+    go : (b : Bool) → passing s ≡ b → false ≡ b
+    go false is = refl
+    go true is =
+        let whole = passing-reaches s is in
+        let r = reaches s whole in
+        let own = span-passed s whole in
+        absurd (omega arith)
 
 -- What a reading answers says whether the command passes.
 module _ (s : List ℕ) where

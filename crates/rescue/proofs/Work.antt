@@ -1,5 +1,5 @@
--- How much a rescue reads: `gather` has one turn for each piece (its measure is how many of them are left), and a turn reads once, at the piece's own place. A
--- reading looks at no more than 128 bytes (`wire` Local, `read-128`).
+-- How much a rescue reads: `gather` has one turn for each piece (its measure is how many of them are left), and a turn reads once at most, at the piece's own
+-- place. A reading looks at no more than 128 bytes (`wire` Local, `read-128`).
 use Prim.Native.Nat.{ℕ, _≤_}
 use mathlib.Core.Path.{_≡_, sym, ap, _∙_}
 use mathlib.Core.List.{List, _∷_}
@@ -12,7 +12,7 @@ use Rattle.rescue.specs.Pieces.{passing, piecesOf}
 use Rattle.rescue.proofs.Passing.{passing-eight, read-code}
 use Rattle.rescue.proofs.Pieces.{pieces-none, pieces-kept, pieces-skipped, by-pieces}
 
--- How many readings a rescue makes.
+-- As many readings as a rescue makes at most.
 abbrev pub readings : List ℕ → ℕ
 readings s = length (piecesOf s)
 

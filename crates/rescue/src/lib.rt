@@ -22,6 +22,9 @@ const FLAG_FORBIDDEN: u8 = 9;
 
 const FLAG_MISSING: u8 = 10;
 
+// The bytes of the longest command.
+const LONGEST_COMMAND: usize = 128;
+
 // The numbers of 16 bits.
 const HALVES: u32 = 65536;
 
@@ -71,8 +74,8 @@ pub fn stretches_of(rescued: Rescued) -> usize
     }
 }
 
-// Do codes 1 to 8 let the command at the front pass?
-fn passes(s: &[u8]) -> bool
+// Does the command at the front pass, as its reading says?
+fn reads_well(s: &[u8]) -> bool
     ensures { λ r. ⌜ r ≡ passing (now (s .entry)) ⌝ }
 {
     match wire::read_command(s) {
@@ -85,6 +88,17 @@ fn passes(s: &[u8]) -> bool
             told.code == FLAG_MISSING
         }
     }
+}
+
+// Do codes 1 to 8 let the command at the front pass? What reaches further than any command can is not read: nearly every byte of noise is such a place
+// (speed/README.md has the figures).
+fn passes(s: &[u8]) -> bool
+    ensures { λ r. ⌜ r ≡ passing (now (s .entry)) ⌝ }
+{
+    if wire::span(s) <= LONGEST_COMMAND {
+        return reads_well(s);
+    }
+    false
 }
 
 // Puts the stretch of so many bytes that ends at a place of the list into a table, from a place on, and says which place comes next. There is none
@@ -102,8 +116,8 @@ fn put_stretch(table: &mut [u8], pos: usize, end: usize, run: usize) -> usize
     words::put_at(table, pos, &numbers)
 }
 
-// Puts the commands that pass at the front of one buffer, and the stretches between them at the front of another. Each turn reads once: it keeps a
-// command, or skips a byte.
+// Puts the commands that pass at the front of one buffer, and the stretches between them at the front of another. Each turn reads once at most: it keeps
+// a command, or skips a byte.
 fn gather(list: &[u8], kept: &mut [u8], table: &mut [u8]) -> Sums
     requires { ⌜ length (now list) ≤ 4096 ⌝ }
     requires { ⌜ 4096 ≤ length (now kept) ⌝ }

@@ -1,4 +1,4 @@
--- `gather` meets its contract (`Turns`). The measure is how many pieces are left: each turn reads once, and comes past one of them.
+-- `gather` meets its contract (`Turns`). The measure is how many pieces are left: each turn reads once at most, and comes past one of them.
 use Prim.Native.Nat.{_+_, _≤_}
 use mathlib.Core.Path.{ap, _∙_}
 use native.Mathlib.Omega.{arith}

@@ -1,48 +1,21 @@
--- `passes` meets its contract: what the reader answers says whether the command passes (`Passing`).
-use mathlib.Core.Path.{sym, ap, _∙_}
+-- `passes` meets its contract: what reaches further than any command can does not pass (`Passing`).
+use native.Mathlib.Omega.{arith}
 use borrow.Author.Needs.{needs}
-use Rattle.wire.specs.Read.{answerOf}
-use Rattle.rescue.proofs.Passing.{taken-passes, nine-passes, ten-passes}
+use Rattle.rescue.proofs.Passing.{none-longer}
 use Rattle.rescue.proofs.passes.Statement.{statement}
 use Rattle.rescue.proofs.passes.Tie as tie
 
-read-command-requires : tie.Need-read-command-requires
-read-command-requires c κs = search needs
+span-requires : tie.Need-span-requires
+span-requires c κs = search needs
 
-enum-told : tie.Need-enum-told
-enum-told c = search needs
-
-enum-known-refusal : tie.Need-enum-known-refusal
-enum-known-refusal c = search needs
-
-told-of-requires : tie.Need-told-of-requires
-told-of-requires c κs = search needs
+reads-well-requires : tie.Need-reads-well-requires
+reads-well-requires c κs = search needs
 
 returns : tie.Need-returns
-returns c =
-    let refused = c .before .before .before .before in
-    let why = refused .refusal .given in
-    nine-passes _ (why .0 .0) _ (sym (ap answerOf (why .1)) ∙ refused .before .before .read-command .ensures) (c .before .before .told-of .ensures)
-    (c .if1 .taken)
+returns c = c .reads-well .ensures
 
 returns-2 : tie.Need-returns-2
-returns-2 c = taken-passes _ (c .enum-told .given .0 .0) (sym (ap answerOf (c .enum-told .given .1)) ∙ c .before .before .read-command .ensures)
-
-returns-3 : tie.Need-returns-3
-returns-3 c =
-    let refused = c .before .before .before .before .before in
-    let why = refused .refusal .given in
-    ten-passes _ (why .0 .0) _ (sym (ap answerOf (why .1)) ∙ refused .before .before .read-command .ensures) (c .before .before .before .told-of .ensures)
-    (c .before .if1 .left)
+returns-2 c = none-longer _ (omega (arith, c .before .span .ensures, c .if1 .left))
 
 pub passes-spec : {M : Type 1} → statement M
-passes-spec =
-    tie.close
-    (tie.spec
-    read-command-requires
-    enum-told
-    enum-known-refusal
-    told-of-requires
-    returns
-    returns-2
-    returns-3)
+passes-spec = tie.close (tie.spec span-requires reads-well-requires returns returns-2)
