@@ -2,8 +2,8 @@
    It does the same jobs as crates/timing and folds their results in the same way. Typed lists are assembled and listed by the rules of request Q-1;
    the macros share one pool of entries by those of request Q-9, a second hands over a group of them by those of request Q-2, no picture is asked for
    with the power off by those of request Q-3, a number out of range is told with its limits by those of request Q-6, the numbers of the latest run
-   are kept, and sent as housekeeping, by those of request Q-11, a command is looked up through an index by those of request Q-14, and a list is moved to
-   a memory card and back by those of request Q-4. */
+   are kept, and sent as housekeeping, by those of request Q-11, a command is looked up through an index by those of request Q-14, a list is moved to
+   a memory card and back by those of request Q-4, and a damaged list is rescued by those of request Q-10. */
 #include "plain.h"
 #include <stdbool.h>
 #include <string.h>
@@ -14,6 +14,7 @@ enum { RECEIVED_TAG = 0x12, FAILED_TAG = 0x13, CODE_TAG = 0x14, FREE_TAG = 0x15,
 enum { RECEIVED_AT = 0, FAILED_AT = 6, CODE_AT = 12, FREE_AT = 15, HOUSEKEEPING = 18 /* bytes of a whole housekeeping frame */ };
 enum { KIT = 1, PUPIL = 2, INDEX = 512 /* the most offsets of an index */ };
 enum { TEXT = 32768, DIGITS = 5, LISTED = 8192 /* above the 7,846 bytes that a list's text has at most */ };
+enum { STRETCH = 4 /* bytes of a table for one stretch */, STRETCHES = 456 /* at most: between two of them lies a command of 8 bytes or more */ };
 enum { GROUP_BITS = 7, MORE = 0x80 /* on every group of a number but its last */, MOST_GROUPS = 5, STORED_FORM = 1 /* the first number on a card */ };
 
 enum kind {
@@ -1189,6 +1190,52 @@ static struct part shown(const uint8_t *kit, size_t kits, const uint8_t *pupil, 
     return (struct part){ kit, 0 };
 }
 
+/* What came of a rescue. */
+struct rescued {
+    uint8_t code;
+    size_t kept, stretches;
+};
+
+/* Do codes 1 to 8 let the command at the front pass? *reach is how far it reaches. */
+static bool passes(const uint8_t *s, size_t size, size_t *reach)
+{
+    struct command c;
+    struct stray stray;
+    uint8_t code = read_command(s, size, &c, reach, &stray);
+    return code == 0 || code == 9 || code == 10;
+}
+
+/* 20, 24. Only the stretches are noted on the way: what lies between them is copied at the end, when it is known that both rooms are large enough. */
+static struct rescued rescue(const uint8_t *list, size_t size, uint8_t *room, size_t fits, uint8_t *table, size_t places)
+{
+    struct { uint16_t start, length; } skipped[STRETCHES];
+    size_t stretches = 0, kept = 0, from = 0;
+    if (size > LIST) return (struct rescued){ 20, 0, 0 };
+    for (size_t at = 0; at < size;) {
+        size_t start = at, reach = 0;
+        while (at < size && !passes(list + at, size - at, &reach)) at++;
+        if (at > start) {
+            skipped[stretches].start = (uint16_t)start;
+            skipped[stretches].length = (uint16_t)(at - start);
+            stretches++;
+        }
+        if (at == size) break;
+        kept += reach;
+        at += reach;
+    }
+    if (kept > fits || STRETCH * stretches > places) return (struct rescued){ 24, 0, 0 };
+    for (size_t i = 0; i < stretches; i++) {
+        size_t n = skipped[i].start - from;
+        memcpy(room, list + from, n);
+        room += n;
+        from = (size_t)skipped[i].start + skipped[i].length;
+        put16(table + STRETCH * i, skipped[i].start);
+        put16(table + STRETCH * i + 2, skipped[i].length);
+    }
+    memcpy(room, list + from, size - from);
+    return (struct rescued){ 0, kept, stretches };
+}
+
 /* The measured jobs, as in crates/timing. */
 
 static uint64_t mixed(uint64_t sum, uint64_t value)
@@ -1477,6 +1524,16 @@ uint64_t plain_from_card(const uint8_t *stored, size_t size, uint8_t *room, size
         struct stray stray = { 0 };
         struct placed p = restored(stored, size, room, fits, &stray);
         sum = with_placed(sum, p, &stray);
+    }
+    return sum;
+}
+
+uint64_t plain_rescue(const uint8_t *list, size_t size, uint8_t *room, size_t fits, uint8_t *table, size_t places, uint32_t times)
+{
+    uint64_t sum = 0;
+    for (uint32_t i = 0; i < times; i++) {
+        struct rescued r = rescue(list, size, room, fits, table, places);
+        sum = mixed(mixed(mixed(sum, r.code), r.kept), r.stretches);
     }
     return sum;
 }

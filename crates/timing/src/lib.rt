@@ -7,6 +7,7 @@ use card::Moved;
 use frame::Frame;
 use housekeeping::Housekeeping;
 use index::Indexed;
+use rescue::Rescued;
 use store::Group;
 use text::Translated;
 use wire::Command;
@@ -606,6 +607,25 @@ pub extern "C" fn timing_from_card(stored: &[u8], room: &mut [u8], times: u32) -
     let mut i: u32 = 0;
     while i < times {
         sum = with_moved(sum, card::from_card(stored, room));
+        i += 1;
+    }
+    sum
+}
+
+// The code of a rescue, how many bytes were kept, and how many stretches were skipped.
+fn with_rescued(sum: u64, rescued: Rescued) -> u64 {
+    let code = mixed(sum, rescue::code_of(rescued) as u64);
+    let kept = mixed(code, rescue::kept_of(rescued) as u64);
+    mixed(kept, rescue::stretches_of(rescued) as u64)
+}
+
+// Rescues a damaged list so many times, to the same place of the room and of the table.
+#[no_mangle]
+pub extern "C" fn timing_rescue(list: &[u8], room: &mut [u8], table: &mut [u8], times: u32) -> u64 {
+    let mut sum: u64 = 0;
+    let mut i: u32 = 0;
+    while i < times {
+        sum = with_rescued(sum, rescue::rescue(list, room, table));
         i += 1;
     }
     sum
