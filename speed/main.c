@@ -9,7 +9,9 @@
 
 enum { ROUNDS = 40, LEAST = 2000000 /* ns of one round of one side */, LIST = 4096, RECORD = 12, ROOM = 1024 * RECORD, ROOMS = 2 * ROOM };
 enum { UNTOUCHED = 0xa5 /* what a room is filled with beforehand */ };
+enum { MIXED = 366 /* mixed commands that take 4,096 bytes */ };
 enum { INDEX = 512 /* the most offsets of an index */, PLACES = 640 /* of a room for one, more than it needs */, ASKED = 400 /* the number looked up */ };
+enum { STRETCH = 4 /* bytes of a table for one stretch */, TABLE = 2048 /* of a table, more than it needs */ };
 enum { FRAMES = 8, HOUSEKEEPING = 18, APART = 32 /* from one housekeeping frame to the next: what lies between may be left over */ };
 
 static uint8_t commands[256], frames[256];
@@ -26,10 +28,11 @@ struct offsets {
     size_t count;
 };
 
-/* What one side leaves its bytes and offsets in, with room for those of two lists. */
+/* What one side leaves its bytes and offsets in, with room for those of two lists, and the stretches of one. */
 struct room {
     uint8_t bytes[ROOMS];
     uint16_t offsets[2 * PLACES];
+    uint8_t table[TABLE];
 };
 
 static double now(void)
@@ -351,16 +354,17 @@ static void bare_line(struct typed *t, unsigned i)
 /* One job on both sides. */
 enum which {
     READ, WRITE, FRAME_READ, FRAME_WRITE, HOUSEKEEPING_READ, HOUSEKEEPING_WRITE, RUNS, SECONDS, ASSEMBLE, LISTING, INDEXING, LOOKING_UP, SHOWING,
-    TO_CARD, FROM_CARD
+    TO_CARD, FROM_CARD, RESCUING
 };
 
 struct job {
     const char *name;
     enum which which;
-    struct list kit, pupil; /* of assembling, listing, indexing and cards: the first list and the second; of housekeeping: the frames; of a look-up: the
-                               list */
+    struct list kit, pupil; /* of assembling, listing, indexing and cards: the first list and the second; of housekeeping: the frames; of a look-up and
+                               of a rescue: the list */
     struct offsets old;     /* of indexing: an earlier index of the first list; of a look-up: the index */
-    uint32_t each;          /* of housekeeping: bytes of each frame, or of its room; of indexing and cards: places of the room for one list */
+    uint32_t each;          /* of housekeeping: bytes of each frame, or of its room; of indexing, cards and rescues: places of the room for one list */
+    uint32_t table;         /* of a rescue: bytes of the table */
     uint32_t number;        /* of a look-up, and of showing: the command's */
     uint8_t sender;         /* of showing */
     uint32_t units;         /* what one time counts for: commands of a run or of lists, seconds */
@@ -431,6 +435,9 @@ static uint64_t do_job(const struct job *j, bool ours, struct room *r, uint32_t 
         uint64_t sum = moved(j->which, ours, &j->kit, room, j->each, times);
         return j->pupil.size == 0 ? sum : sum * 31 + moved(j->which, ours, &j->pupil, room + ROOM, j->each, times);
     }
+    case RESCUING:
+        return ours ? timing_rescue(j->kit.bytes, j->kit.size, room, j->each, r->table, j->table, times)
+                    : plain_rescue(j->kit.bytes, j->kit.size, room, j->each, r->table, j->table, times);
     default: {
         uint64_t sum = translate(j->which, ours, &j->kit, room, times);
         return j->pupil.size == 0 ? sum : sum * 31 + translate(j->which, ours, &j->pupil, room + ROOM, times);
@@ -721,10 +728,10 @@ static void compare_indexes(struct list l, const struct list *other)
     }
 }
 
-/* Moving a list to a card or from one, with so many bytes of room. */
-static struct job card_job(const char *name, enum which which, const struct list *l, uint32_t fits)
+/* Moving a list to a card or from one, or rescuing it, with so many bytes of room, and for a rescue with a table that is large enough. */
+static struct job list_job(const char *name, enum which which, const struct list *l, uint32_t fits)
 {
-    return (struct job){ .name = name, .which = which, .kit = *l, .each = fits, .units = 1, .aim = 1.5 };
+    return (struct job){ .name = name, .which = which, .kit = *l, .each = fits, .table = TABLE, .units = 1, .aim = 1.5 };
 }
 
 /* The first two numbers of a stored list, and these commands. */
@@ -743,9 +750,9 @@ static void card_jobs(struct job *to, struct job *from, const struct filling *f,
     static struct typed lists[2];
     memset(lists, 0, sizeof lists);
     for (unsigned i = 0; i < n; i++) f->put(&lists[i / f->most], i);
-    *to = card_job("commands to a card", TO_CARD, &lists[0].raw, ROOM);
+    *to = list_job("commands to a card", TO_CARD, &lists[0].raw, ROOM);
     struct list stored = stored_list(lists[0].count, &lists[0].stored);
-    *from = card_job("commands from a card", FROM_CARD, &stored, ROOM);
+    *from = list_job("commands from a card", FROM_CARD, &stored, ROOM);
     if (lists[1].count > 0) {
         to->pupil = lists[1].raw;
         from->pupil = stored_list(lists[1].count, &lists[1].stored);
@@ -761,7 +768,7 @@ static void compare_rooms(const char *name, enum which which, const struct list 
     static struct job j;
     const size_t rooms[] = { ROOM, taken, taken > 0 ? taken - 1 : 0, 0 };
     for (unsigned i = 0; i < sizeof rooms / sizeof rooms[0]; i++) {
-        j = card_job(name, which, l, (uint32_t)rooms[i]);
+        j = list_job(name, which, l, (uint32_t)rooms[i]);
         compare(&j);
     }
 }
@@ -771,19 +778,19 @@ static void compare_cut(const char *name, enum which which, struct list l, size_
 {
     static struct job j;
     for (;;) {
-        j = card_job(name, which, &l, ROOM);
+        j = list_job(name, which, &l, ROOM);
         compare(&j);
         if (l.size < apart) return;
         l.size -= apart;
     }
 }
 
-/* A list with each byte changed to several others, or with another byte put in before it. */
+/* A list with each byte changed to several others, taken out, or with another byte put in before it. */
 static void compare_changed(const char *name, enum which which, const struct list *l)
 {
     static const uint8_t others[] = { 0, 1, 2, 9, 0x7e, 0x7f, 0x80, 0x81, 0xfe, 0xff };
     static struct job j;
-    j = card_job(name, which, l, ROOM);
+    j = list_job(name, which, l, ROOM);
     for (size_t at = 0; at <= l->size; at++) {
         for (unsigned i = 0; i < sizeof others; i++) {
             j.kit = *l;
@@ -798,6 +805,11 @@ static void compare_changed(const char *name, enum which which, const struct lis
             j.kit.bytes[at] = l->bytes[at] ^ (uint8_t)(1u << i % 8);
             compare(&j);
         }
+        if (at == l->size) continue;
+        j.kit = *l;
+        memmove(j.kit.bytes + at, l->bytes + at + 1, l->size - at - 1);
+        j.kit.size--;
+        compare(&j);
     }
 }
 
@@ -822,13 +834,15 @@ static void compare_arguments(void)
                 append_stored(&l, f, flag, words);
                 append_stored(&l, &forms[7], 1, one);
                 l = stored_list(3, &l);
-                j = card_job("any arguments from a card", FROM_CARD, &l, ROOM);
+                j = list_job("any arguments from a card", FROM_CARD, &l, ROOM);
                 compare(&j);
                 l.size = 0;
                 append_raw(&l, &forms[0], false, one);
                 append_raw(&l, f, flag % 2 == 1, words);
                 append_raw(&l, &forms[7], true, one);
-                j = card_job("any arguments to a card", TO_CARD, &l, ROOM);
+                j = list_job("any arguments to a card", TO_CARD, &l, ROOM);
+                compare(&j);
+                j = list_job("any arguments rescued", RESCUING, &l, ROOM);
                 compare(&j);
             }
         }
@@ -869,11 +883,15 @@ static void compare_wire(void)
                 struct list l = { .size = 0 };
                 append(&l, 0x015a, true, 2, 0, 0);
                 append(&l, forms[i].opcode, forms[i].flags == ALWAYS, n, 1u << bit, 1);
-                j = card_job("any length and pad to a card", TO_CARD, &l, ROOM);
+                j = list_job("any length and pad to a card", TO_CARD, &l, ROOM);
+                compare(&j);
+                j = list_job("any length and pad rescued", RESCUING, &l, ROOM);
                 compare(&j);
                 l.size = 0;
                 append(&l, forms[i].opcode ^ 1u << bit % 16, bit >= 16, n, 0, 0);
-                j = card_job("any opcode to a card", TO_CARD, &l, ROOM);
+                j = list_job("any opcode to a card", TO_CARD, &l, ROOM);
+                compare(&j);
+                j = list_job("any opcode rescued", RESCUING, &l, ROOM);
                 compare(&j);
             }
         }
@@ -931,6 +949,166 @@ static void compare_cards(void)
     for (l.size = LIST - 1; l.size <= LIST + 4; l.size++) compare_rooms("a list of 4,096 bytes or so to a card", TO_CARD, &l, LIST);
 }
 
+/* So many mixed commands, as one list. */
+static struct list mixed_list(unsigned n)
+{
+    static struct typed t;
+    memset(&t, 0, sizeof t);
+    for (unsigned i = 0; i < n; i++) mixed_line(&t, i);
+    return t.raw;
+}
+
+static void append_bytes(struct list *l, const struct list *more)
+{
+    memcpy(l->bytes + l->size, more->bytes, more->size);
+    l->size += more->size;
+}
+
+/* Bytes that look like chance, each time the same. */
+static struct list noise(size_t size)
+{
+    struct list l = { .size = size };
+    uint32_t state = 0x2545f491;
+    for (size_t i = 0; i < size; i++) {
+        state ^= state << 13;
+        state ^= state >> 17;
+        state ^= state << 5;
+        l.bytes[i] = (uint8_t)(state >> 8);
+    }
+    return l;
+}
+
+/* Mixed commands, one bit of every third wrong: in turn in each of its bytes, and in each place of a byte. */
+static struct list damaged(void)
+{
+    struct list l = mixed_list(MIXED);
+    size_t at = 0;
+    for (unsigned i = 0; at < l.size; i++) {
+        size_t size = 4u * l.bytes[at + 3];
+        if (i % 3 == 2) l.bytes[at + i / 3 % size] ^= (uint8_t)(1u << i % 8);
+        at += size;
+    }
+    return l;
+}
+
+/* As many stretches as there can be: a byte before each command, and behind the last one. */
+static struct list most_stretches(void)
+{
+    struct list l = { .size = 0 };
+    while (l.size + 9 <= LIST) {
+        append_byte(&l, 0xff);
+        append(&l, 0x015a, true, 2, 0, 0);
+    }
+    append_byte(&l, 0xff);
+    return l;
+}
+
+/* Every other byte begins what could be a command of 32 words, whose sum is right and whose opcode there is not. */
+static struct list long_lengths(void)
+{
+    struct list l = { .size = LIST };
+    for (size_t i = 0; i < LIST; i++) l.bytes[i] = i % 2 ? 32 : 0;
+    return l;
+}
+
+static size_t get16(const uint8_t *s)
+{
+    return (size_t)s[0] << 8 | s[1];
+}
+
+/* How many bytes plain C keeps of a list, and how many of the table it takes. What is kept and the stretches must be the list, each byte once. */
+static struct rescued {
+    size_t kept, table;
+} rescued(const struct list *l)
+{
+    static struct room room;
+    static struct job j;
+    struct rescued r = { 0, 0 };
+    bool last = false, whole = true;
+    j = list_job("a rescue", RESCUING, l, ROOM);
+    memset(&room, UNTOUCHED, sizeof room);
+    do_job(&j, false, &room, 1);
+    for (size_t at = 0; whole && !last;) {
+        const uint8_t *stretch = room.table + r.table;
+        size_t start = get16(stretch);
+        last = start == UNTOUCHED * 0x101; /* behind the last one, as no list is that long */
+        if (last) start = l->size;
+        whole = at <= start && start <= l->size && memcmp(room.bytes + r.kept, l->bytes + at, start - at) == 0;
+        r.kept += start - at;
+        at = start + get16(stretch + 2);
+        if (!last) r.table += STRETCH;
+    }
+    if (!whole || room.bytes[r.kept] != UNTOUCHED) {
+        printf("a rescue of %u bytes has lost or changed some\n", (unsigned)l->size);
+        exit(1);
+    }
+    return r;
+}
+
+/* A list rescued with as much room and table as it takes, with more, with one byte less and with none. */
+static void compare_rescue(const char *name, const struct list *l)
+{
+    static struct job j;
+    struct rescued r = l->size <= LIST ? rescued(l) : (struct rescued){ 0, 0 };
+    const size_t rooms[] = { ROOM, r.kept, r.kept > 0 ? r.kept - 1 : 0, 0 }, tables[] = { TABLE, r.table, r.table > 0 ? r.table - 1 : 0, 0 };
+    for (unsigned i = 0; i < 4; i++) {
+        for (unsigned k = 0; k < 4; k++) {
+            j = list_job(name, RESCUING, l, (uint32_t)rooms[i]);
+            j.table = (uint32_t)tables[k];
+            compare(&j);
+        }
+    }
+}
+
+/* Zeros and lists of the timed sorts, of few bytes and of 4,096 or so. */
+static void compare_sizes(void)
+{
+    const struct { const char *name; struct list list; } sorts[] = {
+        { "zeros rescued", { .size = 0 } },
+        { "noise rescued", noise(LIST + 4) },
+        { "damaged commands rescued", damaged() },
+        { "long lengths rescued", long_lengths() },
+        { "mixed commands rescued", mixed_list(MIXED) },
+        { "bare commands rescued", bare_list(INDEX) },
+    };
+    for (unsigned i = 0; i < sizeof sorts / sizeof sorts[0]; i++) {
+        struct list l = sorts[i].list;
+        for (l.size = 0; l.size < 10; l.size++) compare_rescue(sorts[i].name, &l);
+        for (l.size = LIST - 1; l.size <= LIST + 4; l.size++) compare_rescue(sorts[i].name, &l);
+    }
+}
+
+/* Lists with damage of every sort, and with none. */
+static void compare_rescues(void)
+{
+    static const unsigned sizes[] = { 0, 1, 2, 15 };
+    static const uint32_t one[] = { 1, 1 };
+    struct list l, mixeds = mixed_list(15), bares = bare_list(8);
+    for (unsigned i = 0; i < sizeof sizes / sizeof sizes[0]; i++) {
+        l = mixed_list(sizes[i]);
+        compare_cut("a list cut off rescued", RESCUING, l, 1);
+        compare_changed("a changed list rescued", RESCUING, &l);
+    }
+    compare_sizes();
+    for (size_t between = 0; between <= 40; between++) {
+        struct list gap = noise(between);
+        l = gap;
+        append_bytes(&l, &mixeds);
+        append_bytes(&l, &gap);
+        append_bytes(&l, &bares);
+        compare_rescue("lists with noise before them rescued", &l);
+        append_bytes(&l, &gap);
+        compare_rescue("lists with noise all around rescued", &l);
+    }
+    for (unsigned flag = 0; flag < 2; flag++) {
+        l.size = 0;
+        for (unsigned i = 0; i < MIXED; i++) append_raw(&l, &forms[i * 7 % 15], flag == 1, one);
+        compare_rescue("commands with any flag rescued", &l);
+    }
+    l = most_stretches();
+    compare_rescue("as many stretches as there can be rescued", &l);
+}
+
 /* How many records of a run have code 0. */
 static unsigned accepted(const struct job *j)
 {
@@ -970,7 +1148,7 @@ static void print_growth(struct job *jobs, int n, const char *of, const char *he
     }
 }
 
-enum { ALL = 25, SIZES = 3 };
+enum { ALL = 30, SIZES = 3 };
 
 /* The lists of two listing jobs are indexed, the latter also from its first 511 commands; and one command of the latter is looked up, and shown by the
    walk. */
@@ -987,6 +1165,18 @@ static void index_jobs(struct job *jobs, const struct job *mixed_lists, const st
     jobs[2] = index_job("extending an index from 511 to 512", l, &shorter, INDEX, 1);
     jobs[3] = look_up_job("looking up number 400 of 512", l, &index, ASKED);
     jobs[4] = shown_job("showing number 400 of 512", &empty, l, 2, ASKED);
+}
+
+/* Damage of three sorts, and lists without any. */
+static void rescue_jobs(struct job *jobs)
+{
+    struct list chance = noise(LIST), hurt = damaged(), lengths = long_lengths(), mixeds = mixed_list(MIXED), bares = bare_list(INDEX);
+    jobs[0] = list_job("rescuing 4,096 bytes of noise", RESCUING, &chance, LIST);
+    jobs[1] = list_job("rescuing 4,096 bytes of damage", RESCUING, &hurt, LIST);
+    jobs[2] = list_job("rescuing 4,096 bytes of lengths", RESCUING, &lengths, LIST);
+    jobs[3] = list_job("rescuing 4,096 bytes of commands", RESCUING, &mixeds, LIST);
+    jobs[4] = list_job("rescuing 512 bare commands", RESCUING, &bares, LIST);
+    jobs[3].aim = jobs[4].aim = 3;
 }
 
 static void make_jobs(struct job *jobs)
@@ -1020,6 +1210,7 @@ static void make_jobs(struct job *jobs)
     jobs[22].name = "512 mixed commands from a card";
     jobs[23].name = "512 bare commands to a card";
     jobs[24].name = "512 bare commands from a card";
+    rescue_jobs(jobs + 25);
 }
 
 int main(int argc, char **argv)
@@ -1037,6 +1228,7 @@ int main(int argc, char **argv)
     compare_indexes(bares, &others);
     compare_indexes(others, &bares);
     compare_cards();
+    compare_rescues();
     for (int i = 0; i < SIZES; i++) {
         runs[i] = run_job("plain commands", plain_command, sizes[i]);
         runs[SIZES + i] = run_job("macro commands", macro_command, sizes[i]);
