@@ -14,6 +14,7 @@ enum { RECEIVED_TAG = 0x12, FAILED_TAG = 0x13, CODE_TAG = 0x14, FREE_TAG = 0x15,
 enum { RECEIVED_AT = 0, FAILED_AT = 6, CODE_AT = 12, FREE_AT = 15, HOUSEKEEPING = 18 /* bytes of a whole housekeeping frame */ };
 enum { KIT = 1, PUPIL = 2, INDEX = 512 /* the most offsets of an index */ };
 enum { TEXT = 32768, DIGITS = 5, LISTED = 8192 /* above the 7,846 bytes that a list's text has at most */ };
+enum { LONGEST_COMMAND = 4 * 32 /* bytes */ };
 enum { STRETCH = 4 /* bytes of a table for one stretch */, STRETCHES = 456 /* at most: between two of them lies a command of 8 bytes or more */ };
 enum { GROUP_BITS = 7, MORE = 0x80 /* on every group of a number but its last */, MOST_GROUPS = 5, STORED_FORM = 1 /* the first number on a card */ };
 
@@ -1196,11 +1197,12 @@ struct rescued {
     size_t kept, stretches;
 };
 
-/* Do codes 1 to 8 let the command at the front pass? *reach is how far it reaches. */
+/* Do codes 1 to 8 let the command at the front pass? *reach is how far it reaches. What would reach further than any command can need not be read. */
 static bool passes(const uint8_t *s, size_t size, size_t *reach)
 {
     struct command c;
     struct stray stray;
+    if (reach_of(s, size) > LONGEST_COMMAND) return false;
     uint8_t code = read_command(s, size, &c, reach, &stray);
     return code == 0 || code == 9 || code == 10;
 }
