@@ -1,0 +1,3 @@
+-- What the program writes; last, steps of the code.
+pub mod Printed
+pub mod Steps
