@@ -9,7 +9,7 @@ run:
 	@tools/sample
 
 programs:
-	rt check typed assemble lister list to_card from_card
+	rt check typed assemble lister list to_card from_card rescue_list
 
 test:
 	@tools/test
