@@ -1,6 +1,6 @@
 -- 02, Q-10: what a rescue keeps can be run as a list, and then none of its records has a code of 1 to 8. Places k count from 0.
 use Prim.Native.Nat.{ℕ, zero, suc, _+_, _≤_, _<_}
-use mathlib.Core.Path.{_≡_, refl, sym, ap, subst, _∙_}
+use mathlib.Core.Path.{_≡_, refl, sym, subst}
 use mathlib.Core.Logic.{_⊎_, inl, inr}
 use mathlib.Core.List.{List, [], _∷_}
 use mathlib.Core.Bool.{Bool, true, false, cond, _&&_, _||_, false≢true}
@@ -13,14 +13,14 @@ use Rattle.words.specs.Codes.{Check, firstOf}
 use Rattle.words.proofs.Tests.{both}
 use Rattle.wire.specs.Read.{readCode, said}
 use Rattle.walk.specs.Walk.{rests}
-use Rattle.rescue.specs.Pieces.{passes, passing, keptOf}
+use Rattle.rescue.specs.Pieces.{passing, keptOf}
 use Rattle.rescue.specs.Whole.{allPass}
 use Rattle.rescue.proofs.Unharmed.{rescued-passes}
 use Rattle.bench.specs.declared.Bench.{Bench}
-use Rattle.bench.specs.Carry.{stateChecks, bytesChecks, taken}
-use Rattle.bench.specs.Run.{kitPart, runOf, roomAfter}
+use Rattle.bench.specs.Carry.{stateChecks, taken}
+use Rattle.bench.specs.Run.{runOf, roomAfter}
 use Rattle.bench.proofs.Outcomes.{behindCode, read-then}
-use Rattle.bench.proofs.Report.{recordAt, verdictAt, kit-record, pupil-record}
+use Rattle.bench.proofs.Report.{recordAt, kit-record, pupil-record}
 
 -- A code that is none of 1 to 8: acceptance, or one from 9 on.
 abbrev pub Later : ℕ → Type 0

@@ -4,7 +4,6 @@
 use super::lines;
 use super::rooms;
 use super::say;
-use rescue::MOST;
 use rescue::Rescued;
 use rescue::STRETCH;
 use rescue::TABLE;
@@ -30,15 +29,6 @@ const PRINTED: usize = 16 * STRETCH;
 struct Back {
     size: usize,
     kept: usize,
-}
-
-// The bytes of so many stretches; no list has more than the most.
-fn table_size(stretches: usize) -> usize {
-    if stretches < MOST {
-        stretches * STRETCH
-    } else {
-        TABLE
-    }
 }
 
 // The last bytes, so many at most, of those at the front of a room.
@@ -68,7 +58,7 @@ fn stretches(table: &[u8]) {
 // stretches.
 fn answer(rescued: Rescued, room: &[u8], table: &[u8]) {
     let kept = rescue::kept_of(rescued);
-    let skipped = table_size(rescue::stretches_of(rescued));
+    let skipped = rescue::table_of(rescued);
     say::field8(b"code ", rescue::code_of(rescued));
     say::field(b", kept ", kept as u64);
     say::field(b", stretches ", rescue::stretches_of(rescued) as u64);
@@ -161,9 +151,13 @@ pub fn rescue_list(s: &[u8]) {
     let size = words::half_at(s, 0);
     let rescued = lent(list, &mut room, size, &mut table, words::half_at(s, 2));
     answer(rescued, &room, &table);
-    if let Rescued::Done(size, stretches) = rescued {
+    if let Rescued::Done(size, _) = rescued {
         let kept = lines::part(&room, 0, size);
-        together(list, kept, lines::part(&table, 0, table_size(stretches)));
+        together(
+            list,
+            kept,
+            lines::part(&table, 0, rescue::table_of(rescued)),
+        );
         again(kept);
     }
 }

@@ -1,9 +1,7 @@
 // The item of damaged lists: 02 puts the commands that pass at the front of a lent room and the stretches that were skipped at the front of another, and
 // prints whether the rest of each room is as it was.
-use rescue::MOST;
 use rescue::Rescued;
 use rescue::STRETCH;
-use rescue::TABLE;
 use script::Place;
 use script::output;
 use script::rooms;
@@ -11,15 +9,6 @@ use script::rooms::FILL;
 
 // Where the length begins in a stretch, behind its start.
 const LENGTH: usize = 2;
-
-// The bytes of so many stretches; no list has more than the most.
-fn table_size(stretches: usize) -> usize {
-    if stretches < MOST {
-        stretches * STRETCH
-    } else {
-        TABLE
-    }
-}
 
 fn skipped_line(out: &mut [u8], used: usize, stretch: &[u8]) -> usize {
     let used = output::text(out, used, b"skipped");
@@ -64,11 +53,10 @@ fn rescued_lines(
     room: &[u8],
     table: &[u8],
 ) -> usize {
-    let stretches = rescue::stretches_of(rescued);
     let used = rescued_line(out, used, rescued, room);
-    let used = skipped_lines(out, used, table, stretches);
+    let used = skipped_lines(out, used, table, rescue::stretches_of(rescued));
     let used = rooms::rest_line(out, used, room, rescue::kept_of(rescued));
-    rooms::rest_line(out, used, table, table_size(stretches))
+    rooms::rest_line(out, used, table, rescue::table_of(rescued))
 }
 
 fn rescued(out: &mut [u8], used: usize, list: &[u8], room: &mut [u8], table: &mut [u8]) -> usize {

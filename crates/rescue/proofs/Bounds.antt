@@ -1,7 +1,7 @@
 -- How much room is enough: no more is kept than there is, and between two stretches lies a command, which has eight bytes at least.
 use Prim.Native.Nat.{ℕ, _+_, _*_, _-_, _≤_}
 use mathlib.Core.Path.{_≡_, refl, ap}
-use mathlib.Core.List.{List, [], _∷_, _++_}
+use mathlib.Core.List.{List, [], _∷_}
 use mathlib.Core.Bool.{Bool, true, false, cond}
 use native.Mathlib.Omega.{arith}
 use lib.ListN.{length, take, drop, length-append, length-drop}
@@ -9,7 +9,7 @@ use lib.Seq.{length-take-le}
 use lib.Dec.{eqb}
 use borrow.Author.Tests.{eqb-false}
 use Rattle.wire.specs.Read.{spanOf}
-use Rattle.rescue.specs.Pieces.{passing, kept, piecesOf, keptIn, keptOf, Stretch, stretchTo, stretchesIn, stretchesOf}
+use Rattle.rescue.specs.Pieces.{passing, piecesOf, keptIn, keptOf, Stretch, stretchTo, stretchesIn, stretchesOf}
 use Rattle.rescue.specs.Answers.{skippedOf}
 use Rattle.rescue.proofs.Passing.{passing-eight}
 use Rattle.rescue.proofs.Pieces.{pieces-none, pieces-kept, pieces-skipped, by-pieces}

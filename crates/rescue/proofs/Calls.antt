@@ -1,23 +1,33 @@
 -- `rescue` as a caller meets it: when it is taken, what a refusal leaves, and what stands in both rooms.
-use Prim.Native.Nat.{ℕ, _+_, _*_, _≤_, _<_}
-use mathlib.Core.Path.{_≡_, refl, ap, _∙_}
+use Prim.Native.Nat.{ℕ, _*_, _≤_, _<_}
+use mathlib.Core.Path.{_≡_, refl, sym, ap, _∙_}
 use mathlib.Core.Logic.{_↔_, _≢_}
-use mathlib.Core.List.{List, [], _++_}
-use mathlib.Core.Bool.{Bool, true, false, not}
+use mathlib.Core.List.{List}
+use mathlib.Core.Bool.{Bool, true, false, cond, not}
 use native.Mathlib.Omega.{arith}
 use lib.ListN.{length, take, drop}
 use lib.Seq.{take-at}
-use lib.Dec.{leb}
-use borrow.Author.Tests.{ltb-false, le-ltb, lt-ltb, leb-true, le-leb, ne-eqb, not-false}
+use lib.Dec.{eqb, ltb}
+use borrow.Author.Tests.{eqb-true, ltb-false, le-ltb, lt-ltb, leb-true, le-leb, ne-eqb, not-false}
 use Rattle.words.specs.BigEndian.{hasRoom}
 use Rattle.words.proofs.Tests.{neither}
-use Rattle.rescue.specs.Pieces.{keptOf, stretchesOf, tableOf}
-use Rattle.rescue.specs.Answers.{skippedOf, rescueCode, rescuedAs, roomAfter, tableAfter}
+use Rattle.rescue.specs.Pieces.{keptOf, stretchesOf}
+use Rattle.rescue.specs.Answers.{skippedOf, rescueCode, answer, tableSize, rescuedAs, roomAfter, tableAfter}
 use Rattle.rescue.proofs.Order.{rescue-order}
-use Rattle.rescue.proofs.Bounds.{kept-short, table-short}
+use Rattle.rescue.proofs.Bounds.{kept-short, stretches-456, table-short}
 use Rattle.rescue.proofs.Turns.{length-table}
 
 module _ (s room table : List ℕ) where
+  -- The code of an answer is that of the call.
+  pub answered-code : rescuedAs s room table .code ≡ rescueCode s room table
+  unfolding rescuedAs
+  answered-code = go (eqb (rescueCode s room table) 0) refl
+    where
+      go : (done : Bool) → eqb (rescueCode s room table) 0 ≡ done
+          → cond done (answer 0 (length (keptOf s)) (length (stretchesOf s))) (answer (rescueCode s room table) 0 0) .code ≡ rescueCode s room table
+      go true is = sym (eqb-true (rescueCode s room table) 0 is)
+      go false is = refl
+
   -- Demand 1: a refusal leaves every byte of both rooms as it was, and answers with counts of 0.
   pub refused-leaves : rescueCode s room table ≢ 0 → (roomAfter s room table ≡ room) × (tableAfter s room table ≡ table)
   unfolding roomAfter tableAfter
@@ -68,6 +78,15 @@ module _ (s room table : List ℕ) where
     pub stretch-count : rescuedAs s room table .stretches ≡ length (stretchesOf s)
     unfolding rescuedAs
     stretch-count = rw code
+
+    pub table-count : tableSize (rescuedAs s room table .stretches) ≡ length (skippedOf s)
+    table-count = ap tableSize stretch-count ∙ size (ltb (length (stretchesOf s)) 456) refl
+      where
+        size : (b : Bool) → ltb (length (stretchesOf s)) 456 ≡ b → cond b (length (stretchesOf s) * 4) 1824 ≡ length (skippedOf s)
+        size true is = omega (arith, length-table (stretchesOf s))
+        size false is =
+            let most = stretches-456 s (taken .0 code .0) in
+            omega (arith, ltb-false (length (stretchesOf s)) 456 is, length-table (stretchesOf s))
 
     pub kept-front : take (rescuedAs s room table .kept) (roomAfter s room table) ≡ keptOf s
     unfolding roomAfter

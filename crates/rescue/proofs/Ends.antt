@@ -1,12 +1,12 @@
 -- The ends of a rescue: which answer, and what both rooms hold afterwards, by the tests that were passed on the way.
-use Prim.Native.Nat.{ℕ, _+_, _*_, _/_, _≤_, _<_}
+use Prim.Native.Nat.{ℕ, _/_, _≤_, _<_}
 use mathlib.Core.Path.{_≡_, refl, sym, ap, _∙_}
-use mathlib.Core.List.{List, _++_}
+use mathlib.Core.List.{List}
 use mathlib.Core.Bool.{true, false}
 use native.Mathlib.Omega.{arith}
-use lib.ListN.{length, take, drop}
+use lib.ListN.{length, take}
 use lib.Seq.{length-take-le}
-use lib.Dec.{eqb, leb}
+use lib.Dec.{eqb}
 use borrow.Author.Tests.{lt-ltb, le-ltb, lt-leb, le-leb}
 use Rattle.words.specs.BigEndian.{hasRoom, written}
 use Rattle.words.proofs.Laws.{with-room}
@@ -36,10 +36,10 @@ module _ (s room table : List ℕ) where
 
   -- All was gathered.
   module _ (short : length s ≤ 4096) (kept skipped : List ℕ) (sums : Sums) (g : Gathered s kept skipped sums) where
-    pub kept-size : length (take (sums .kept) kept) ≡ sums .kept
+    kept-size : length (take (sums .kept) kept) ≡ sums .kept
     kept-size = length-take-le (sums .kept) kept (g .kept-fits)
 
-    pub table-size : length (take (sums .table) skipped) ≡ sums .table
+    table-size : length (take (sums .table) skipped) ≡ sums .table
     table-size = length-take-le (sums .table) skipped (g .table-fits)
 
     is-kept : length (keptOf s) ≡ sums .kept

@@ -7,7 +7,7 @@ use mathlib.Core.Bool.{Bool, true, false, cond, not, _&&_, false≢true}
 use native.Mathlib.Omega.{arith}
 use lib.ListN.{length, take, drop}
 use lib.Seq.{length-take-le}
-use lib.Dec.{eqb, ltb}
+use lib.Dec.{eqb}
 use borrow.Author.Tests.{ne-eqb, not-true}
 use Rattle.words.specs.BigEndian.{wordAt}
 use Rattle.words.specs.Codes.{Check, _when_, firstOf}
@@ -23,7 +23,7 @@ use Rattle.wire.specs.Table.{rowOf, ruleOf}
 use Rattle.wire.specs.Judge.{toldOf, flagChecks}
 use Rattle.wire.specs.Read.{Answer, answerOf, opcodeOf, flagOf, lengthOf, thirdWord, sumDiffers}
 use Rattle.wire.specs.Read.{reachChecks, reachCode, decodeChecks, readChecks, readCode, readOf, spanOf}
-use Rattle.wire.proofs.Answers.{refusal-code, Reaches, reaches}
+use Rattle.wire.proofs.Answers.{refusal-code, reaches}
 use Rattle.wire.proofs.Local.{reached, reads-on, read-own, span-own}
 use Rattle.walk.proofs.Spans.{span-passed}
 use Rattle.rescue.specs.Pieces.{passes, passing}

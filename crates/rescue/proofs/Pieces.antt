@@ -1,12 +1,12 @@
 -- The pieces of a list, one at a time.
-use Prim.Native.Nat.{ℕ, zero, suc, _+_, _*_, _-_, _≤_, _<_}
+use Prim.Native.Nat.{ℕ, zero, suc, _-_, _≤_, _<_}
 use mathlib.Core.Path.{_≡_, refl, sym, ap, _∙_}
-use mathlib.Core.List.{List, [], _∷_, _++_}
+use mathlib.Core.List.{List, [], _∷_}
 use mathlib.Core.Bool.{Bool, true, false}
 use native.Mathlib.Omega.{arith}
 use lib.ListN.{length, take, drop, getD, length-drop}
 use Rattle.wire.specs.Read.{spanOf}
-use Rattle.rescue.specs.Pieces.{passing, Piece, kept, skipped, piecesIn, piecesOf}
+use Rattle.rescue.specs.Pieces.{passing, kept, skipped, piecesIn, piecesOf}
 use Rattle.rescue.proofs.Passing.{passing-eight}
 
 -- One piece where bytes are left.

@@ -1,6 +1,6 @@
 -- "Kept and skipped bytes together are the whole input, each once": a list as its parts, which are the commands that a rescue keeps and the stretches that it
 -- skips. `together` says it in one piece.
-use Prim.Native.Nat.{ℕ, suc, _+_, _-_, _≤_, _<_}
+use Prim.Native.Nat.{ℕ, suc, _+_, _-_, _≤_}
 use mathlib.Core.Path.{_≡_, refl, sym, ap, subst, _∙_}
 use mathlib.Core.List.{List, [], _∷_, _++_, append-assoc, append-nil}
 use mathlib.Core.Bool.{Bool, true, false, cond}

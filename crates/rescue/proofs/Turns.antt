@@ -11,10 +11,10 @@ use lib.Dec.{eqb, leb}
 use borrow.Author.Tests.{ne-eqb, eqb-false}
 use Rattle.words.specs.BigEndian.{wordBytes}
 use Rattle.words.specs.Text.{placeAfter, storedAt}
-use Rattle.words.proofs.Stores.{place-fits, stored-fits, no-store, front-more}
+use Rattle.words.proofs.Stores.{place-fits, stored-fits, front-more}
 use Rattle.wire.specs.Read.{spanOf}
 use Rattle.walk.proofs.Turns.{from-place}
-use Rattle.rescue.specs.Pieces.{passing, Piece, kept, skipped, piecesOf, keptIn, keptOf}
+use Rattle.rescue.specs.Pieces.{passing, kept, skipped, piecesOf, keptIn, keptOf}
 use Rattle.rescue.specs.Pieces.{Stretch, stretchTo, stretchesIn, stretchesOf, stretchBytes, tableOf}
 use Rattle.rescue.specs.Steps.{Gathered}
 use Rattle.rescue.proofs.Passing.{passing-eight}
@@ -146,7 +146,7 @@ module _ (s buffer₀ table₀ buffer table : List ℕ) (at run n m : ℕ) (g : 
       abbrev bytes : List ℕ
       bytes = take (at + span - at) (drop at s)
 
-      pub length-kept : length bytes ≡ span
+      length-kept : length bytes ≡ span
       length-kept = length-take-le (at + span - at) (drop at s) (omega (arith, reach, length-drop at s)) ∙ omega arith
 
       keeps : piecesOf (drop at s) ≡ kept bytes ∷ piecesOf (drop (at + span) s)

@@ -3,22 +3,22 @@ use Prim.Native.Nat.{ℕ, _+_, _≤_, _<_}
 use mathlib.Core.Path.{_≡_, refl, sym, ap, subst, _∙_}
 use mathlib.Core.Logic.{_↔_}
 use mathlib.Core.List.{List, [], _∷_, _++_}
-use mathlib.Core.Bool.{true, false, _&&_, false≢true}
+use mathlib.Core.Bool.{true, false, false≢true}
 use native.Mathlib.Omega.{arith}
 use lib.ListN.{length, take, drop, length-append, take-append-drop}
-use lib.Seq.{take-append-seam, drop-append-seam}
-use Rattle.wire.specs.Read.{readOf, spanOf}
+use lib.Seq.{drop-append-seam}
+use Rattle.wire.specs.Read.{spanOf}
 use Rattle.wire.proofs.Answers.{Reaches, reaches}
-use Rattle.wire.proofs.Local.{reads-on, spans-on}
+use Rattle.wire.proofs.Local.{spans-on}
 use Rattle.walk.specs.Walk.{rests}
 use Rattle.walk.proofs.Rests.{rests-none, rests-more}
 use Rattle.rescue.specs.Pieces.{passing, piecesOf, keptIn, keptOf, stretchesIn, stretchesOf, tableOf}
-use Rattle.rescue.specs.Answers.{skippedOf, rescueCode, Answer, answer, rescuedAs, roomAfter, tableAfter}
+use Rattle.rescue.specs.Answers.{rescueCode, answer, rescuedAs, roomAfter, tableAfter}
 use Rattle.rescue.specs.Whole.{allPass, without}
 use Rattle.rescue.proofs.Passing.{passing-reaches, passing-eight, passing-on, Whole, alone}
 use Rattle.rescue.proofs.Pieces.{pieces-none, pieces-kept, pieces-skipped, by-pieces}
 use Rattle.rescue.proofs.Together.{together}
-use Rattle.rescue.proofs.Calls.{taken, kept-count, stretch-count}
+use Rattle.rescue.proofs.Calls.{taken}
 
 -- A command that passes, in front of anything: a walk finds it there, and what is behind it.
 module _ (bs t : List ℕ) (w : Whole bs) where

@@ -1,7 +1,7 @@
 -- 02, Q-10, what is answered and left in the rooms: "Refusals: 20, then 24 when either output has too little room."
-use Prim.Native.Nat.{ℕ}
+use Prim.Native.Nat.{ℕ, _*_}
 use mathlib.Core.List.{List, [], _∷_, _++_}
-use mathlib.Core.Bool.{Bool, cond, not, _||_}
+use mathlib.Core.Bool.{cond, not, _||_}
 use lib.ListN.{length, drop}
 use lib.Dec.{eqb, ltb}
 use Rattle.words.specs.BigEndian.{hasRoom}
@@ -35,6 +35,10 @@ abbrev pub answerOf : Rescued → Answer
 answerOf (Rescued.Done kept stretches) = answer 0 kept stretches
 answerOf Rescued.TooLong = answer 20 0 0
 answerOf Rescued.NoRoom = answer 24 0 0
+
+-- The bytes that so many stretches take in a table: four each. No list that is taken has more than 456 stretches, and no more are counted.
+abbrev pub tableSize : ℕ → ℕ
+tableSize stretches = cond (ltb stretches 456) (stretches * 4) 1824
 
 unfoldable pub rescuedAs : List ℕ → List ℕ → List ℕ → Answer
 unfolding rescueCode

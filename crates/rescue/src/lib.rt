@@ -5,7 +5,7 @@ ghost use mathlib.Core.Path.{_≡_};
 ghost use lib.ListN.{length};
 ghost use Rattle.words.specs.Text.{placeAfter, storedAt};
 ghost use Rattle.rescue.specs.Pieces.{passing, stretchTo, tableOf};
-ghost use Rattle.rescue.specs.Answers.{answerOf, rescuedAs, roomAfter, tableAfter};
+ghost use Rattle.rescue.specs.Answers.{answerOf, tableSize, rescuedAs, roomAfter, tableAfter};
 ghost use Rattle.rescue.specs.Steps.{Gathered};
 
 // The bytes of one stretch in a table: two numbers of 16 bits, its start and its length.
@@ -72,6 +72,24 @@ pub fn stretches_of(rescued: Rescued) -> usize
         Rescued::TooLong => 0,
         Rescued::NoRoom => 0,
     }
+}
+
+// How many bytes so many stretches take in a table. No list that is taken has more than the most.
+fn table_size(stretches: usize) -> usize
+    ensures { λ r. ⌜ r ≡ tableSize stretches ⌝ }
+{
+    if stretches < MOST {
+        stretches * STRETCH
+    } else {
+        TABLE
+    }
+}
+
+// How many bytes of the table were written; none on a refusal.
+pub fn table_of(rescued: Rescued) -> usize
+    ensures { λ r. ⌜ r ≡ tableSize (answerOf rescued .stretches) ⌝ }
+{
+    table_size(stretches_of(rescued))
 }
 
 // Does the command at the front pass, as its reading says?

@@ -4,12 +4,12 @@ use Prim.Native.Nat.{ℕ, _*_, _/_, _≤_, _<_}
 use mathlib.Core.Path.{_≡_, refl, sym, ap, _∙_}
 use mathlib.Core.Logic.{_≢_}
 use mathlib.Core.List.{List, [], _∷_, _++_}
-use mathlib.Core.Bool.{Bool, true, false, cond}
+use mathlib.Core.Bool.{Bool, true, false}
 use native.Mathlib.Omega.{arith}
 use lib.ListN.{length, take, drop}
 use lib.Seq.{sets}
-use lib.Dec.{eqb, ltb}
-use borrow.Author.Tests.{lt-ltb, le-ltb, ltb-true, ltb-false, eqb-true}
+use lib.Dec.{ltb}
+use borrow.Author.Tests.{lt-ltb, le-ltb, ltb-true, ltb-false}
 use Rattle.words.specs.BigEndian.{bytesOf}
 use Rattle.words.specs.Text.{ascii, decimalIn}
 use Rattle.words.proofs.Laws.{with-room, sets-written}
@@ -17,7 +17,7 @@ use Rattle.wire.specs.Judge.{plain}
 use Rattle.wire.specs.Read.{sumOf, readCode, spanOf}
 use Rattle.text.specs.Findings.{finding}
 use Rattle.rescue.specs.Pieces.{passing, piecesOf, keptIn, keptOf, stretchesIn, stretchesOf}
-use Rattle.rescue.specs.Answers.{skippedOf, rescueCode, answer, rescuedAs, roomAfter, tableAfter}
+use Rattle.rescue.specs.Answers.{skippedOf, rescueCode, rescuedAs, roomAfter, tableAfter}
 use Rattle.rescue.proofs.Turns.{length-table}
 use Rattle.rescue.proofs.Together.{together}
 use Rattle.rescue.proofs.Bounds.{stretches-456}
@@ -27,16 +27,6 @@ use Rattle.listing.specs.Refusal.{refusalLine}
 use Rattle.rescue_list.specs.Printed.{printed, linesOf, noted}
 use Rattle.rescue_list.specs.Steps.{linesTo}
 use Rattle.rescue_list.proofs.Lines.{lines-few, table-lines}
-
--- The code of an answer is that of the call.
-pub answered-code : (s room table : List ℕ) → rescuedAs s room table .code ≡ rescueCode s room table
-unfolding rescuedAs
-answered-code s room table = go (eqb (rescueCode s room table) 0) refl
-  where
-    go : (taken : Bool) → eqb (rescueCode s room table) 0 ≡ taken
-        → cond taken (answer 0 (length (keptOf s)) (length (stretchesOf s))) (answer (rescueCode s room table) 0 0) .code ≡ rescueCode s room table
-    go true is = sym (eqb-true (rescueCode s room table) 0 is)
-    go false is = refl
 
 -- Of a list that is not too long the commands that are kept are printed, with a line for each stretch, and 9,120 bytes are enough for the lines.
 module _ (s : List ℕ) (short : length s ≤ 4096) where

@@ -1,12 +1,11 @@
 -- `gather` meets its contract (`Turns`). The measure is how many pieces are left: each turn reads once at most, and comes past one of them.
 use Prim.Native.Nat.{_+_, _≤_}
-use mathlib.Core.Path.{ap, _∙_}
 use native.Mathlib.Omega.{arith}
 use lib.ListN.{length, drop}
 use borrow.Author.Needs.{needs}
 use borrow.Author.Tests.{not-true, not-false}
 use Rattle.rescue.specs.Pieces.{piecesOf}
-use Rattle.rescue.proofs.Turns.{Gathering, none-gathered, fewer-behind-byte, skip-turn, reach, length-kept, fewer-behind, keep-turn, gathered}
+use Rattle.rescue.proofs.Turns.{Gathering, none-gathered, fewer-behind-byte, skip-turn, reach, fewer-behind, keep-turn, gathered}
 use Rattle.rescue.proofs.gather.Statement.{statement}
 use Rattle.rescue.proofs.gather.Tie as tie
 

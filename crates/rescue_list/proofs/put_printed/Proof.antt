@@ -8,11 +8,12 @@ use lib.Seq.{length-take-le}
 use borrow.Author.Needs.{needs}
 use Rattle.text.specs.Findings.{finding}
 use Rattle.rescue.specs.Answers.{rescueCode, rescuedAs}
+use Rattle.rescue.proofs.Calls.{answered-code}
 use Rattle.listing.specs.declared.refusals.Numbered.{Numbered}
 use Rattle.listing.specs.Refusal.{refusalLine}
 use Rattle.listing.proofs.Lines.{put-front}
 use Rattle.rescue_list.specs.Printed.{noted}
-use Rattle.rescue_list.proofs.Printed.{answered-code, refused-long, long-printed, long-room, long-noted}
+use Rattle.rescue_list.proofs.Printed.{refused-long, long-printed, long-room, long-noted}
 use Rattle.rescue_list.proofs.Printed.{kept-printed, kept-room, stretches-few, filled-lines, filled-room}
 use Rattle.rescue_list.proofs.put_printed.Statement.{statement}
 use Rattle.rescue_list.proofs.put_printed.Tie as tie
