@@ -3,9 +3,9 @@
 -- `housekeeping` `housekeepingAt`, `run` `runOf` with the room `roomAfter`, and `run_typed` `typedOf` with the room `typedRoom` (specs/Carry, Second,
 -- Status, Run, Typed). What can happen to a bench is a list of events: commands, seconds, runs and runs of typed lists (specs/Events). Read the
 -- statements here; what they rest on is proved in Rows, Dark, Back, Sound, FreeEntries, MacroRun, Report, TypedReport, LastNumbers and LineShown, and in
--- the crates below. How many pictures come, and whether a list may be run in parts, which no demand asks, is in HowMany and TwoEvenings. What is no part
--- of a bench has its share of demands 1 and 2 in its own crate: an index beside a list in `index`, Calls and Order; lists on a memory card in `card`,
--- RoundTrips, Passes and Order.
+-- the crates below. How many pictures come, whether a list may be run in parts, and what is left of a damaged one, which no demand asks, is in HowMany,
+-- TwoEvenings and RescuedRun. What is no part of a bench has its share of demands 1 and 2 in its own crate: an index beside a list in `index`, Calls and
+-- Order; lists on a memory card in `card`, RoundTrips, Passes and Order; damaged lists in `rescue`, Calls and Order.
 use Prim.Native.Nat.{ℕ, _+_, _*_, _-_, _≤_, _<_}
 use mathlib.Core.Path.{_≡_, refl, sym, _∙_}
 use mathlib.Core.Logic.{_↔_, _≢_}
