@@ -25,7 +25,7 @@ const FLAG_MISSING: u8 = 10;
 // The bytes of the longest command.
 const LONGEST_COMMAND: usize = 128;
 
-// The numbers of 16 bits.
+// A stretch is written as one number of 32 bits, in which its start counts so much.
 const HALVES: u32 = 65536;
 
 // What came of it: so many bytes were kept and so many stretches skipped, or why nothing was written.
