@@ -1,0 +1,4 @@
+-- Laws of the gas valve.
+pub mod Answers
+pub mod States
+mod Fronts
