@@ -46,18 +46,24 @@ pub enum Writing {
     NoRoom,
 }
 
-// The bytes of a frame.
+// The bytes of a frame, and of a word.
 pub const SIZE: usize = 64;
 
-// How many words there are, the first of those that must be zero, and how many are summed up, word 0 first. The sum stands behind these.
-const WORDS: usize = 32;
+const WORD: usize = 2;
 
-const REST: usize = 6;
+// How many words there are, and how many of them are summed up, word 0 first.
+const WORDS: usize = 32;
 
 const SUMMED: usize = 5;
 
-// The word of the firing code.
+// The words of the firing code and of the sum, and the first of those that must be zero; and how many bytes these have.
 const CODE: usize = 4;
+
+const SUM: usize = 5;
+
+const REST: usize = 6;
+
+const ZEROS: usize = 52;
 
 // The flags of word 0, and the identifier, which stands below them.
 const OCPL: u16 = 0x8000;
@@ -129,7 +135,7 @@ fn rest_zero(s: &[u8]) -> bool
 {
     let mut i = REST;
     while i < WORDS {
-        if words::half_at(s, i * 2) != 0 {
+        if words::half_at(s, i * WORD) != 0 {
             return false;
         }
         i += 1;
@@ -173,7 +179,7 @@ pub fn read_frame(s: &[u8]) -> Reading
         return Reading::Refused(Refusal::WrongSize);
     }
     let front = front_of(s);
-    if front[SUMMED] != checksum(front) {
+    if front[SUM] != checksum(front) {
         return Reading::Refused(Refusal::WrongSum);
     }
     if front[0] % QUIET != IDENTIFIER {
@@ -220,7 +226,7 @@ fn front_words(f: Frame) -> [u16; 6]
     let act = f.act;
     let asked = words_of(act);
     let mut front = [head, asked[0], asked[1], asked[2], asked[3], 0];
-    front[SUMMED] = checksum(front);
+    front[SUM] = checksum(front);
     front
 }
 
@@ -254,6 +260,6 @@ pub fn write_frame(f: Frame, room: &mut [u8]) -> Writing
     }
     let front = front_bytes(front_words(f));
     let next = words::put_at(room, 0, &front);
-    words::put_at(room, next, &[0u8; 52]);
+    words::put_at(room, next, &[0u8; ZEROS]);
     Writing::Written
 }
