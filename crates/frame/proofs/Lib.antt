@@ -8,4 +8,3 @@ pub mod Calls
 pub mod Answers
 pub mod Bytes
 pub mod Modes
-mod Tests

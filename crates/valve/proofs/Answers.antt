@@ -3,7 +3,7 @@ use Prim.Native.Nat.{ℕ, _%_, _≤_, _<_}
 use mathlib.Core.Path.{_≡_, refl, sym, ap, _∙_}
 use mathlib.Core.Logic.{_≢_}
 use mathlib.Core.List.{List, [], _∷_, _++_}
-use mathlib.Core.Bool.{Bool, true, false, not, _||_}
+use mathlib.Core.Bool.{true, false}
 use native.Mathlib.Omega.{arith}
 use lib.ListN.{length, drop, length-append}
 use lib.Seq.{sets}
@@ -12,7 +12,7 @@ use Rattle.words.specs.BigEndian.{halfBytes, hasRoom, written}
 use Rattle.words.specs.Text.{storedAt, placeAfter}
 use Rattle.words.specs.Codes.{firstOf}
 use Rattle.words.proofs.Laws.{sets-written}
-use Rattle.words.proofs.Stores.{Laid, laid-first, laid-next}
+use Rattle.words.proofs.Stores.{laid-first, laid-next}
 use Rattle.valve.specs.declared.Act.{Act}
 use Rattle.valve.specs.declared.Frame.{Frame}
 use Rattle.valve.specs.Frame.{wordNo, wordsIn, bytesOf, checksum, zeros, allZero, actWords, headOf, summedWords, frontWords, frameBytes, arms, fires, framed, frameAt}

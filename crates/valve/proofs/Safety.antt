@@ -1,21 +1,21 @@
 -- For the safety officer: a fired valve was armed earlier. Whatever is sent to a fresh valve, it is fired at the end exactly when there is a place at which an
 -- arming frame was accepted, and a later one at which a firing frame with the right code was; and a valve that was fired stays fired.
-use Prim.Native.Nat.{ℕ, zero, suc, _<_}
+use Prim.Native.Nat.{ℕ, suc}
 use mathlib.Core.Path.{_≡_, refl, sym, ap, subst, _∙_}
 use mathlib.Core.Logic.{_↔_, _≢_, _⊎_, inl, inr}
 use mathlib.Core.List.{List, [], _∷_, _++_}
-use mathlib.Core.Bool.{Bool, true, false, not, true≢false}
+use mathlib.Core.Bool.{Bool, true, false, true≢false}
 use native.Mathlib.Omega.{arith}
-use lib.ListN.{length, take, drop, take-append-drop}
+use lib.ListN.{take, drop, take-append-drop}
 use lib.Dec.{eqb}
 use borrow.Author.Tests.{eqb-true, eqb-false, not-false}
 use Rattle.words.proofs.Order.{NoneDue}
 use Rattle.valve.specs.declared.Act.{Act}
 use Rattle.valve.specs.declared.state.Valve.{Valve}
 use Rattle.valve.specs.Frame.{wordsIn, actWords, frameAt}
-use Rattle.valve.specs.State.{freshValve, isArmed, statusOf, actChecks, leftBy, carryCode, carryOut}
-use Rattle.valve.specs.History.{sent, Turned, ArmedAt, FiredAt, ArmedThenFired}
-use Rattle.valve.proofs.Accepted.{Accepted, carried}
+use Rattle.valve.specs.State.{freshValve, statusOf, actChecks, leftBy, carryCode, carryOut}
+use Rattle.valve.specs.History.{sent, Turned, FiredAt, ArmedThenFired}
+use Rattle.valve.proofs.Accepted.{carried}
 use Rattle.valve.proofs.Calls.{refused-carrying}
 
 -- One frame: an accepted one leaves what its act comes to.

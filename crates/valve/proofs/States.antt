@@ -2,11 +2,10 @@
 use Prim.Native.Nat.{ℕ}
 use mathlib.Core.Path.{_≡_, refl, sym, ap, _∙_}
 use mathlib.Core.Logic.{_≢_}
-use mathlib.Core.List.{List, [], _∷_}
-use mathlib.Core.Bool.{Bool, true, false, cond}
+use mathlib.Core.List.{List}
+use mathlib.Core.Bool.{true, false}
 use native.Mathlib.Omega.{arith}
 use lib.ListN.{getD}
-use lib.Dec.{eqb}
 use borrow.Author.Tests.{eq-eqb, ne-eqb}
 use Rattle.words.specs.Codes.{firstOf}
 use Rattle.words.proofs.FirstOf.{Coded, first-refuses, first-passes}
@@ -16,7 +15,7 @@ use Rattle.valve.specs.declared.Refusal.{Refusal}
 use Rattle.valve.specs.declared.state.Valve.{Valve}
 use Rattle.valve.specs.Frame.{firingCode, frameAt}
 use Rattle.valve.specs.Answers.{Answer, codeOf, readChecks, readCode, readOf}
-use Rattle.valve.specs.State.{isArmed, actChecks, leftBy, Outcome, outcomeBy, carryCode, carryOut}
+use Rattle.valve.specs.State.{isArmed, actChecks, Outcome, outcomeBy, carryCode, carryOut}
 use Rattle.valve.proofs.Answers.{refusedWith, takenAs}
 
 abbrev pub outcome : ℕ → Valve → Outcome

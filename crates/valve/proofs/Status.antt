@@ -1,8 +1,8 @@
 -- The bits of the status word say the state, both ways: bit 14 is armed or fired, bit 15 is fired, and no other bit is ever set.
-use Prim.Native.Nat.{ℕ, zero, suc, _/_, _%_, _^_, _<_}
+use Prim.Native.Nat.{ℕ, _/_, _%_, _^_}
 use mathlib.Core.Path.{_≡_, refl, sym, ap, _∙_}
-use mathlib.Core.Logic.{_↔_, _≢_}
-use mathlib.Core.Bool.{Bool, true, false, cond, _&&_, not, true≢false}
+use mathlib.Core.Logic.{_↔_}
+use mathlib.Core.Bool.{Bool, true, cond}
 use lib.Dec.{eqb}
 use Rattle.words.proofs.Laws.{one-to-one}
 use Rattle.valve.specs.declared.state.Valve.{Valve}

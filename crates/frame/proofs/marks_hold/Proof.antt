@@ -6,7 +6,7 @@ use lib.Dec.{eqb}
 use borrow.Author.Tests.{eq-eqb, ne-eqb}
 use borrow.Author.Needs.{needs}
 use Rattle.frame.specs.Rules.{marked}
-use Rattle.frame.proofs.Tests.{fails, holds}
+use Rattle.words.proofs.Tests.{fails, holds}
 use Rattle.frame.proofs.marks_hold.Statement.{statement}
 use Rattle.frame.proofs.marks_hold.Tie as tie
 

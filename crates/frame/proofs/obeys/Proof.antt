@@ -2,7 +2,7 @@
 use mathlib.Core.Path.{sym}
 use borrow.Author.Needs.{needs}
 use Rattle.frame.specs.Rules.{frameRule}
-use Rattle.frame.proofs.Tests.{fails, holds}
+use Rattle.words.proofs.Tests.{fails, holds}
 use Rattle.frame.proofs.obeys.Statement.{statement}
 use Rattle.frame.proofs.obeys.Tie as tie
 

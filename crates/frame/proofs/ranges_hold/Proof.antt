@@ -1,7 +1,7 @@
 -- `frame::ranges_hold` meets its contract: a region, a goal and an algorithm in range, by what `in_range` promises.
 use mathlib.Core.Path.{sym}
 use borrow.Author.Needs.{needs}
-use Rattle.frame.proofs.Tests.{fails, holds, last}
+use Rattle.words.proofs.Tests.{fails, holds, last}
 use Rattle.frame.proofs.ranges_hold.Statement.{statement}
 use Rattle.frame.proofs.ranges_hold.Tie as tie
 

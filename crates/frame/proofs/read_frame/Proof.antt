@@ -1,7 +1,7 @@
 -- `frame::read_frame` meets its contract: at each return the tests so far hold, and the law of that outcome (Answers) gives the answer.
 use mathlib.Core.Path.{sym, _∙_}
 use borrow.Author.Needs.{needs}
-use Rattle.frame.proofs.Tests.{fails, holds}
+use Rattle.words.proofs.Tests.{fails, holds}
 use Rattle.frame.proofs.Answers.{wrong-size, wrong-spare, wrong-count, wrong-field, taken}
 use Rattle.frame.proofs.read_frame.Statement.{statement}
 use Rattle.frame.proofs.read_frame.Tie as tie

@@ -2,7 +2,7 @@
 use native.Mathlib.Omega.{arith}
 use borrow.Author.Needs.{needs}
 use Rattle.frame.proofs.Bytes.{frame-words}
-use Rattle.frame.proofs.Tests.{fails, holds}
+use Rattle.words.proofs.Tests.{fails, holds}
 use Rattle.frame.proofs.Laws.{ruled}
 use Rattle.frame.proofs.Answers.{wrote-broken, Outcome, outcome}
 use Rattle.frame.proofs.write_frame.Statement.{statement}

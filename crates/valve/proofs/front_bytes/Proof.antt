@@ -1,5 +1,4 @@
 -- `front_bytes` meets its contract: two bytes to a word, one after another.
-use mathlib.Core.Path.{_∙_}
 use borrow.Author.Needs.{needs}
 use Rattle.valve.proofs.Fronts.{six-bytes}
 use Rattle.valve.proofs.front_bytes.Statement.{statement}

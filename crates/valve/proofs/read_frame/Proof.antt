@@ -1,12 +1,11 @@
 -- `read_frame` meets its contract: at each return the tests so far hold, and the law of that outcome (Answers) gives the answer.
-use mathlib.Core.Path.{_≡_, sym, ap, _∙_}
-use mathlib.Core.Logic.{_≢_}
+use mathlib.Core.Path.{_≡_, sym, _∙_}
 use mathlib.Core.List.{List}
 use Prim.Native.Nat.{ℕ, _%_}
 use mathlib.Core.Bool.{true}
-use lib.ListN.{length, getD, take, drop}
+use lib.ListN.{length}
 use borrow.Author.Needs.{needs}
-use borrow.Author.Tests.{not-true, not-false}
+use Rattle.words.proofs.Tests.{fails, holds}
 use Rattle.valve.specs.Frame.{wordNo, wordsIn, checksum, allZero}
 use Rattle.valve.proofs.Answers.{wrong-size, wrong-sum, wrong-identifier, not-zero, neither, arming, firing}
 use Rattle.valve.proofs.read_frame.Statement.{statement}
@@ -26,7 +25,7 @@ passed p =
 
 -- and, once it is zero behind the sum, which act it asks for.
 zero-rest : (p : tie.Else4) → allZero (wordsIn (bytes (p .before .before)) 6 26) ≡ true
-zero-rest p = sym (p .before .rest-zero .ensures) ∙ not-false (p .before .rest-zero .result) (p .if4 .left)
+zero-rest p = holds (p .before .rest-zero .ensures) (p .if4 .left)
 
 returns : tie.Need-returns
 returns c = wrong-size (c .before .before .args .s .now) (c .if1 .taken)
@@ -64,7 +63,7 @@ returns-4 : tie.Need-returns-4
 returns-4 c =
     let p = c .before .before in
     let known = passed p in
-    not-zero (bytes p) (known .0) (known .1) (known .2) (sym (c .before .rest-zero .ensures) ∙ not-true (c .before .rest-zero .result) (c .if4 .taken))
+    not-zero (bytes p) (known .0) (known .1) (known .2) (fails (c .before .rest-zero .ensures) (c .if4 .taken))
 
 says-requires : tie.Need-says-requires
 says-requires c κs = search needs
@@ -99,7 +98,7 @@ returns-6 c =
     let known = passed p in
     let front = p .before .before .before .front-of .ensures in
     let arms-not = rw front at (sym (asked .says .ensures) ∙ c .before .before .if5 .left) in
-    let fires-not = rw front at (sym (c .before .says2 .ensures) ∙ not-true (c .before .says2 .result) (c .if6 .taken)) in
+    let fires-not = rw front at (fails (c .before .says2 .ensures) (c .if6 .taken)) in
     neither (bytes p) (known .0) (known .1) (known .2) (zero-rest rest) arms-not fires-not
 
 array-read-framed-2 : tie.Need-array-read-framed-2
@@ -116,7 +115,7 @@ returns-7 c =
     let known = passed p in
     let front = p .before .before .before .front-of .ensures in
     let arms-not = rw front at (sym (asked .says .ensures) ∙ c .before .before .before .if5 .left) in
-    let is = rw front at (sym (c .before .before .says2 .ensures) ∙ not-false (c .before .before .says2 .result) (c .before .if6 .left)) in
+    let is = rw front at (holds (c .before .before .says2 .ensures) (c .before .if6 .left)) in
     rw (c .framed2 .ensures, front) (firing (bytes p) (known .0) (known .1) (known .2) (zero-rest rest) arms-not is)
 
 pub read-frame-spec : {M : Type 1} → statement M

@@ -1,7 +1,6 @@
 -- `rest_zero` meets its contract. The invariant: all of the words are zero exactly when those from the loop's place on are.
 use Prim.Native.Nat.{_-_, _≤_}
-use mathlib.Core.Path.{_≡_, refl, sym, ap, _∙_}
-use mathlib.Core.Logic.{_≢_}
+use mathlib.Core.Path.{_≡_, refl, sym, _∙_}
 use native.Mathlib.Omega.{arith}
 use borrow.Author.Needs.{needs}
 use Rattle.valve.specs.Frame.{wordsIn, allZero}
