@@ -5,7 +5,8 @@
 -- statements here; what they rest on is proved in Rows, Dark, Back, Sound, FreeEntries, MacroRun, Report, TypedReport, LastNumbers and LineShown, and in
 -- the crates below. How many pictures come, whether a list may be run in parts, and what is left of a damaged one, which no demand asks, is in HowMany,
 -- TwoEvenings and RescuedRun. What is no part of a bench has its share of demands 1 and 2 in its own crate: an index beside a list in `index`, Calls and
--- Order; lists on a memory card in `card`, RoundTrips, Passes and Order; damaged lists in `rescue`, Calls and Order.
+-- Order; lists on a memory card in `card`, RoundTrips, Passes and Order; damaged lists in `rescue`, Calls and Order; the gas valve in `valve`, Calls,
+-- RoundTrip and Order.
 use Prim.Native.Nat.{ℕ, _+_, _*_, _-_, _≤_, _<_}
 use mathlib.Core.Path.{_≡_, refl, sym, _∙_}
 use mathlib.Core.Logic.{_↔_, _≢_}
