@@ -41,6 +41,13 @@ pub const BAD_NUMBER: u8 = 35;
 pub const OTHER_FORM: u8 = 36;
 pub const LIST_LEFT_OVER: u8 = 37;
 pub const BAD_FLAG: u8 = 38;
+pub const NOT_64_BYTES: u8 = 40;
+pub const BAD_SUM: u8 = 41;
+pub const OTHER_IDENTIFIER: u8 = 42;
+pub const UNUSED_NOT_ZERO: u8 = 43;
+pub const NEITHER_PATTERN: u8 = 44;
+pub const NOT_ARMED: u8 = 45;
+pub const WRONG_FIRING_CODE: u8 = 46;
 pub const ITEM_CUT_OFF: u8 = 47;
 pub const UNEXPECTED_TAG: u8 = 48;
 pub const WRONG_ITEM_LENGTH: u8 = 49;
@@ -54,6 +61,7 @@ pub fn can_be_shown(code: u8) -> bool {
         code,
         ACCEPTED..=POWER_OFF
             | UNKNOWN_NAME..=BAD_FLAG
+            | NOT_64_BYTES..=WRONG_FIRING_CODE
             | ITEM_CUT_OFF..=BYTES_LEFT_OVER
             | BAD_OFFSETS
     )

@@ -22,4 +22,6 @@ pub mod rescue;
 pub mod run;
 pub mod text;
 pub mod typed;
+pub mod valve;
+pub mod valve_replay;
 pub mod wire;

@@ -71,7 +71,7 @@ impl<'a> Script<'a> {
     }
 
     /// A part whose length stands before it in one byte.
-    fn short_part(&mut self) -> Option<&'a [u8]> {
+    pub(crate) fn short_part(&mut self) -> Option<&'a [u8]> {
         let length = self.byte()?;
         self.part(length.into())
     }
@@ -203,7 +203,7 @@ impl Replay {
 }
 
 /// A writer's code and, where it is 0, the bytes it wrote.
-fn written_words(written: &Result<usize, Refusal>, room: &[u8]) -> String {
+pub(crate) fn written_words(written: &Result<usize, Refusal>, room: &[u8]) -> String {
     match written {
         Ok(length) => format!("0 {}", hex(&room[..*length])),
         Err(refusal) => refusal.code.to_string(),

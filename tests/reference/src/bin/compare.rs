@@ -20,24 +20,27 @@ use reference::comparison::salvages::{self, Answers, Salvage};
 use reference::comparison::shrink::{bytes, commands, lines, numbers};
 use reference::comparison::tally::{grouped, Tally};
 use reference::comparison::trips::{self, Trip};
+use reference::comparison::walks::{self, Walk};
 use reference::comparison::{fixed, fixed_dark, fixed_range, inputs, random, sums};
 use reference::comparison::{fixed_cards, random_cards};
 use reference::comparison::{fixed_evenings, random_evenings};
 use reference::comparison::{fixed_growths, fixed_index, random_index};
 use reference::comparison::{fixed_rescues, random_rescues};
+use reference::comparison::{fixed_valve, random_valve};
 use reference::list::listing;
 use reference::lists_replay;
 use reference::pictures::answers;
 use reference::programs::{assembler, from_card, lister, rescue_list, to_card, typed};
 use reference::replay::{self, Replay, Script};
 use reference::run::LONGEST_LIST;
+use reference::valve_replay::{self, ValveReplay};
 
 /// How much was sent and compared: scripts to the replay programs and the lines
 /// of their answers, lists to the list program, inputs to the programs for typed
 /// lists, for lists on a card and for damaged ones, and sums to the cases program; and lists
 /// split over two evenings and over three, lists that grow, lists that go to a card or come
-/// off it and come back, and damaged lists that are rescued and rescued again, whose
-/// scripts and answers are among the others.
+/// off it and come back, damaged lists that are rescued and rescued again, and walks of a
+/// valve, whose scripts and answers are among the others.
 #[derive(Default)]
 struct Sent {
     scripts: u64,
@@ -50,6 +53,7 @@ struct Sent {
     growths: usize,
     trips: usize,
     salvages: usize,
+    walks: usize,
 }
 
 impl Sent {
@@ -58,12 +62,13 @@ impl Sent {
         let (lists, inputs) = (self.lists, self.inputs);
         let [sums, pairs, triples] =
             [self.sums, self.pairs, self.triples].map(|it| grouped(it as u64));
-        let [growths, trips, salvages] =
-            [self.growths, self.trips, self.salvages].map(|it| grouped(it as u64));
+        let [growths, trips] = [self.growths, self.trips].map(|it| grouped(it as u64));
+        let [salvages, walks] = [self.salvages, self.walks].map(|it| grouped(it as u64));
         format!(
             "{lists} lists, {inputs} inputs, {sums} sums, \
              {pairs} pairs and {triples} triples of evenings, {growths} growing lists, \
-             {trips} lists there and back, {salvages} lists rescued twice"
+             {trips} lists there and back, {salvages} lists rescued twice, \
+             {walks} walks of a valve"
         )
     }
 }
@@ -83,6 +88,8 @@ const FROM_CARD_STREAM: u64 = 11 << 32;
 const RESCUE_STREAM: u64 = 12 << 32;
 const SALVAGE_STREAM: u64 = 13 << 32;
 const RESCUE_LIST_STREAM: u64 = 14 << 32;
+const VALVE_STREAM: u64 = 15 << 32;
+const WALK_STREAM: u64 = 16 << 32;
 
 /// A program that takes scripts, and what is expected of it.
 struct Taker<'a> {
@@ -144,6 +151,8 @@ fn compare_all(options: &Options, tally: &mut Tally) -> Result<Sent, Differs> {
     compare_trips(options, tally, &mut sent)?;
     compare_rescue_scripts(options, tally, &mut sent)?;
     compare_salvages(options, tally, &mut sent)?;
+    compare_valve_scripts(options, tally, &mut sent)?;
+    compare_walks(options, tally, &mut sent)?;
     Ok(sent)
 }
 
@@ -167,6 +176,18 @@ fn lists_taker(options: &Options) -> Taker<'_> {
             let answers = items
                 .iter()
                 .map(|it| lists_replay::item(&mut Script::new(it)));
+            answers.map(lines_in).collect()
+        },
+    }
+}
+
+fn valve_taker(options: &Options) -> Taker<'_> {
+    Taker {
+        program: &options.valve_replay,
+        expected: valve_replay::transcript,
+        line_counts: |items| {
+            let mut replay = ValveReplay::default();
+            let answers = items.iter().map(|item| replay.item(&mut Script::new(item)));
             answers.map(lines_in).collect()
         },
     }
@@ -358,6 +379,41 @@ fn compare_salvages(options: &Options, tally: &mut Tally, sent: &mut Sent) -> Re
     Ok(())
 }
 
+/// Fixed items about the valve, then random ones.
+fn compare_valve_scripts(
+    options: &Options,
+    tally: &mut Tally,
+    sent: &mut Sent,
+) -> Result<(), Differs> {
+    let mut rng = Rng::stream(options.seed, VALVE_STREAM);
+    let mut scripts = fixed_valve::scripts();
+    scripts.extend(random_valve::scripts(&mut rng, options.valves));
+    for script in scripts {
+        compare_script(&valve_taker(options), &script, tally, sent)?;
+    }
+    Ok(())
+}
+
+/// Fixed and random walks of a valve. Each is compared with the reference, like any script,
+/// and then the program's answers with each other.
+fn compare_walks(options: &Options, tally: &mut Tally, sent: &mut Sent) -> Result<(), Differs> {
+    let mut rng = Rng::stream(options.seed, WALK_STREAM);
+    let mut all = fixed_valve::walks();
+    all.extend((0..options.valves).map(|_| random_valve::walk(&mut rng)));
+    sent.walks = all.len();
+    let taker = valve_taker(options);
+    for batch in batches(all, Walk::script_bytes) {
+        let items: Vec<Item> = batch.iter().flat_map(Walk::items).collect();
+        let answers = compare_script(&taker, &items, tally, sent)?;
+        let mut lines = answers.lines();
+        let differing = batch
+            .iter()
+            .find(|one| walks::disagreement(one, &mut lines).is_some());
+        differing.map_or(Ok(()), |one| Err(report_walk(taker.program, one)))?;
+    }
+    Ok(())
+}
+
 fn compare_lists(options: &Options) -> Result<usize, Differs> {
     let mut rng = Rng::stream(options.seed, LIST_STREAM);
     let mut lists = vec![
@@ -541,4 +597,15 @@ fn report_salvage(options: &Options, salvage: &Salvage) -> Differs {
     let mut items = vec![smallest.item()];
     items.extend(all(&smallest).map_or(Vec::new(), |(again, runs, _)| [again, runs].concat()));
     report_disagreement(&items, show(&smallest), "about the damaged list")
+}
+
+/// The same for a walk of a valve.
+fn report_walk(program: &Program, walk: &Walk) -> Differs {
+    println!("answers about a valve differ:");
+    let show = |walk: &Walk| {
+        let answers = program.answer(&walk.items().concat()).ok()?;
+        walks::disagreement(walk, &mut answers.lines())
+    };
+    let smallest = walk.smallest(&mut |fewer| show(fewer).is_some());
+    report_disagreement(&smallest.items(), show(&smallest), "about the valve")
 }

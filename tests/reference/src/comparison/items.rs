@@ -7,6 +7,7 @@ use crate::replay::{
     ASSEMBLE, COMMAND, DECODED, FRAME, FRESH, HOUSEKEEPING, LINE, LIST, PASSED, READ, RUN, SECOND,
     SHOWN, STATUS, TAGS, TYPED,
 };
+use crate::valve_replay;
 use crate::wire::{sealed, unsealed};
 
 /// One item of a script, as its bytes.
@@ -167,6 +168,25 @@ pub fn look_up(offsets: &[u16], list: &[u8], number: u32) -> Item {
     long_offsets(&mut item, offsets);
     long_part(&mut item, list);
     item.extend(number.to_be_bytes());
+    item
+}
+
+/// An item of the replay program for the valve, as the next ones: a fresh valve.
+pub fn fresh_valve() -> Item {
+    vec![valve_replay::FRESH]
+}
+
+/// A frame carried out.
+pub fn valve(bytes: &[u8]) -> Item {
+    let mut item = vec![valve_replay::CARRY_OUT];
+    short_part(&mut item, bytes);
+    item
+}
+
+/// A frame read and written again.
+pub fn valve_frame(room: u8, bytes: &[u8]) -> Item {
+    let mut item = vec![valve_replay::READ, room];
+    short_part(&mut item, bytes);
     item
 }
 

@@ -5,8 +5,9 @@ use super::program::Program;
 
 pub const USAGE: &str = "usage: compare --replay \"CMD\" --list \"CMD\" \
     --typed \"CMD\" --assemble \"CMD\" --lister \"CMD\" --cases \"CMD\" --lists_replay \"CMD\" \
-    --to_card \"CMD\" --from_card \"CMD\" --rescue_list \"CMD\" [--seed N] [--lists N] \
-    [--inputs N] [--sums N] [--evenings N] [--indexes N] [--cards N] [--rescues N] [--answers N]";
+    --to_card \"CMD\" --from_card \"CMD\" --rescue_list \"CMD\" --valve_replay \"CMD\" [--seed N] \
+    [--lists N] [--inputs N] [--sums N] [--evenings N] [--indexes N] [--cards N] [--rescues N] \
+    [--valves N] [--answers N]";
 
 pub struct Options {
     pub replay: Program,
@@ -19,6 +20,7 @@ pub struct Options {
     pub to_card: Program,
     pub from_card: Program,
     pub rescue_list: Program,
+    pub valve_replay: Program,
     pub seed: u64,
     /// How many random lists are sent, besides those of 0, 4,096 and 4,097 bytes.
     pub lists: usize,
@@ -39,6 +41,9 @@ pub struct Options {
     /// How many random damaged lists are rescued, and how many more are rescued, and what
     /// was kept of them is again, besides the fixed ones.
     pub rescues: usize,
+    /// How many random walks a valve takes, and how many valves take random items of any
+    /// sort, besides the fixed ones.
+    pub valves: usize,
     /// How many transcript lines are to be compared at least.
     pub answers: u64,
 }
@@ -51,6 +56,7 @@ const DEFAULT_EVENINGS: usize = 600;
 const DEFAULT_INDEXES: usize = 600;
 const DEFAULT_CARDS: usize = 600;
 const DEFAULT_RESCUES: usize = 600;
+const DEFAULT_VALVES: usize = 600;
 const DEFAULT_ANSWERS: u64 = 240_000;
 
 /// The same options while it is not yet known whether all have been given.
@@ -66,6 +72,7 @@ struct Given {
     to_card: Option<Program>,
     from_card: Option<Program>,
     rescue_list: Option<Program>,
+    valve_replay: Option<Program>,
     seed: Option<u64>,
     lists: Option<usize>,
     inputs: Option<usize>,
@@ -74,6 +81,7 @@ struct Given {
     indexes: Option<usize>,
     cards: Option<usize>,
     rescues: Option<usize>,
+    valves: Option<usize>,
     answers: Option<u64>,
 }
 
@@ -91,6 +99,7 @@ impl Given {
             "--to_card" => self.to_card = Program::with_errors(value),
             "--from_card" => self.from_card = Program::with_errors(value),
             "--rescue_list" => self.rescue_list = Program::with_errors(value),
+            "--valve_replay" => self.valve_replay = Program::new(value),
             "--seed" => self.seed = Some(value.parse().ok()?),
             "--lists" => self.lists = Some(value.parse().ok()?),
             "--inputs" => self.inputs = Some(value.parse().ok()?),
@@ -99,6 +108,7 @@ impl Given {
             "--indexes" => self.indexes = Some(value.parse().ok()?),
             "--cards" => self.cards = Some(value.parse().ok()?),
             "--rescues" => self.rescues = Some(value.parse().ok()?),
+            "--valves" => self.valves = Some(value.parse().ok()?),
             "--answers" => self.answers = Some(value.parse().ok()?),
             _ => return None,
         }
@@ -123,6 +133,7 @@ impl Options {
             to_card: given.to_card?,
             from_card: given.from_card?,
             rescue_list: given.rescue_list?,
+            valve_replay: given.valve_replay?,
             seed: given.seed.unwrap_or(DEFAULT_SEED),
             lists: given.lists.unwrap_or(DEFAULT_LISTS),
             inputs: given.inputs.unwrap_or(DEFAULT_INPUTS),
@@ -131,12 +142,13 @@ impl Options {
             indexes: given.indexes.unwrap_or(DEFAULT_INDEXES),
             cards: given.cards.unwrap_or(DEFAULT_CARDS),
             rescues: given.rescues.unwrap_or(DEFAULT_RESCUES),
+            valves: given.valves.unwrap_or(DEFAULT_VALVES),
             answers: given.answers.unwrap_or(DEFAULT_ANSWERS),
         })
     }
 
     /// Every program that is to be started.
-    pub fn programs(&self) -> [&Program; 10] {
+    pub fn programs(&self) -> [&Program; 11] {
         [
             &self.replay,
             &self.list,
@@ -148,6 +160,7 @@ impl Options {
             &self.to_card,
             &self.from_card,
             &self.rescue_list,
+            &self.valve_replay,
         ]
     }
 }

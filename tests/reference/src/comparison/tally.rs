@@ -61,14 +61,23 @@ fn codes_in(line: &str) -> Vec<u8> {
     let words: Vec<&str> = line.split(' ').collect();
     let places: &[usize] = match words[0] {
         "command" | "run" | "assembled" | "listed" | "typed" | "housekeeping" | "indexed"
-        | "stored" | "raw" | "rescued" => &[1],
-        "frame" => &[1, 2],
+        | "stored" | "raw" | "rescued" | "valve" => &[1],
+        "frame" => frame_places(words.get(3)),
         "read" | "decoded" | "tags" => &[1, 6],
         "record" => return record_code(words.get(1)).into_iter().collect(),
         _ => &[],
     };
     let found = places.iter().filter_map(|place| words.get(*place));
     found.filter_map(|word| word.parse().ok()).collect()
+}
+
+/// Where a frame has its codes: one for the valve has its flags and its order between them.
+fn frame_places(order: Option<&&str>) -> &'static [usize] {
+    match order {
+        Some(&"arm") => &[1, 4],
+        Some(&"fire") => &[1, 5],
+        _ => &[1, 2],
+    }
 }
 
 /// The code beside an entry that was handed over.
