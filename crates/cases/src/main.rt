@@ -20,6 +20,7 @@ mod states;
 mod tags;
 mod telling;
 mod texts;
+mod valves;
 
 use bench::Bench;
 
@@ -28,7 +29,7 @@ const TEXT: usize = 524288;
 
 const BYTES: usize = 40000;
 
-// Verbs of single frames.
+// Verbs of single frames, and of the gas valve.
 fn framed(line: &[u8], s: &[u8]) {
     if lines::begins(line, b"frame ") {
         frames::read(s);
@@ -40,6 +41,10 @@ fn framed(line: &[u8], s: &[u8]) {
         tags::read(s);
     } else if lines::begins(line, b"pack ") {
         tags::write(s);
+    } else if lines::begins(line, b"gas ") {
+        valves::read(s);
+    } else if lines::begins(line, b"valve ") {
+        valves::carry_out(s);
     } else {
         say::text(b"no such verb");
     }

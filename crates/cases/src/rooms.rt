@@ -102,3 +102,24 @@ pub fn put_housekeeping(h: Housekeeping, size: usize) {
         }
     }
 }
+
+// Lends the front of a room to the writer of a frame of the gas valve.
+fn write_valve(f: valve::Frame, room: &mut [u8], size: usize) -> valve::Writing {
+    if size <= room.len() {
+        valve::write_frame(f, &mut room[0..size])
+    } else {
+        valve::Writing::NoRoom
+    }
+}
+
+// Writes a frame of the gas valve into so many bytes of a room, and says what came of it.
+pub fn put_valve(f: valve::Frame, size: usize) {
+    let mut room = [FILL; 256];
+    match write_valve(f, &mut room, size) {
+        valve::Writing::Written => written(&room, valve::SIZE),
+        valve::Writing::NoRoom => {
+            say::text(b"code 24");
+            rest(&room, 0);
+        }
+    }
+}

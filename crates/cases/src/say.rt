@@ -79,6 +79,12 @@ pub fn field16(name: &[u8], n: u16) {
     field(name, n as u64);
 }
 
+// The same in hex.
+pub fn hex16(name: &[u8], n: u16) {
+    text(name);
+    io::print_hex(1, n as u64, 4);
+}
+
 // 1 or 0 behind a name.
 pub fn flag(name: &[u8], on: bool) {
     if on {
