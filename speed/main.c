@@ -13,6 +13,7 @@ enum { MIXED = 366 /* mixed commands that take 4,096 bytes */ };
 enum { INDEX = 512 /* the most offsets of an index */, PLACES = 640 /* of a room for one, more than it needs */, ASKED = 400 /* the number looked up */ };
 enum { STRETCH = 4 /* bytes of a table for one stretch */, TABLE = 2048 /* of a table, more than it needs */ };
 enum { FRAMES = 8, HOUSEKEEPING = 18, APART = 32 /* from one housekeeping frame to the next: what lies between may be left over */ };
+enum { VALVE_FRAME = 64, VALVE_WORDS = 32, SUM_WORD = 5 /* behind the words that it sums up */, VALVE_APART = 80 /* from one to the next, as above */ };
 
 static uint8_t commands[256], frames[256];
 
@@ -48,6 +49,17 @@ static void put32(uint8_t *s, uint32_t v)
     s[1] = (uint8_t)(v >> 16);
     s[2] = (uint8_t)(v >> 8);
     s[3] = (uint8_t)v;
+}
+
+static size_t get16(const uint8_t *s)
+{
+    return (size_t)s[0] << 8 | s[1];
+}
+
+static void put16(uint8_t *s, size_t v)
+{
+    s[0] = (uint8_t)(v >> 8);
+    s[1] = (uint8_t)v;
 }
 
 /* A command of n words, the last of them the XOR of the others. */
@@ -212,6 +224,67 @@ static struct list broken_frames(unsigned apart)
     return l;
 }
 
+/* The sum of a valve's frame is made right. */
+static void mend(uint8_t *f)
+{
+    size_t sum = 0;
+    for (unsigned i = 0; i < SUM_WORD; i++) sum += get16(f + 2 * i);
+    put16(f + 2 * SUM_WORD, sum);
+}
+
+/* A frame to the valve with these flags and these words 1 to 4. */
+static void append_valve_frame(struct list *l, unsigned flags, const uint16_t *words)
+{
+    uint8_t *f = l->bytes + l->size;
+    memset(f, 0, VALVE_APART);
+    put16(f, flags << 14 | 0x000e);
+    for (unsigned i = 1; i < SUM_WORD; i++) put16(f + 2 * i, words[i - 1]);
+    mend(f);
+    l->size += VALVE_APART;
+}
+
+static void append_arming(struct list *l, unsigned flags)
+{
+    append_valve_frame(l, flags, (const uint16_t[]){ 0xffff, 0x0001, 0, 0 });
+}
+
+static void append_firing(struct list *l, unsigned flags, uint16_t code)
+{
+    append_valve_frame(l, flags, (const uint16_t[]){ 0, 0, 0xffff, code });
+}
+
+/* Eight frames to the valve: with each pair of flags one that arms and one that fires, each with another code. */
+static struct list valve_frames(void)
+{
+    static const uint16_t codes[] = { 0x1810, 0, 0xffff, 0x1811 };
+    struct list l = { .size = 0 };
+    for (unsigned flags = 0; flags < 4; flags++) {
+        append_arming(&l, flags);
+        append_firing(&l, flags, codes[flags]);
+    }
+    return l;
+}
+
+static void flip(uint8_t *f, unsigned word, unsigned bit)
+{
+    put16(f + 2 * word, get16(f + 2 * word) ^ 1u << bit);
+}
+
+/* The same with one bit of two words of each wrong, or of one where they are the same. The sum may be mended; where it is one of the two, it is broken
+   after that. */
+static struct list broken_valve_frames(unsigned first, unsigned second, unsigned bit, bool mended)
+{
+    struct list l = valve_frames();
+    for (unsigned i = 0; i < FRAMES; i++) {
+        uint8_t *f = l.bytes + VALVE_APART * i;
+        if (first != SUM_WORD) flip(f, first, bit);
+        if (second != SUM_WORD && second != first) flip(f, second, bit);
+        if (mended) mend(f);
+        if (first == SUM_WORD || second == SUM_WORD) flip(f, SUM_WORD, bit);
+    }
+    return l;
+}
+
 enum layout { BARE, BYTE, HALF, HALVES, SINGLES };
 enum flags { EITHER, NEVER, ALWAYS };
 
@@ -354,16 +427,17 @@ static void bare_line(struct typed *t, unsigned i)
 /* One job on both sides. */
 enum which {
     READ, WRITE, FRAME_READ, FRAME_WRITE, HOUSEKEEPING_READ, HOUSEKEEPING_WRITE, RUNS, SECONDS, ASSEMBLE, LISTING, INDEXING, LOOKING_UP, SHOWING,
-    TO_CARD, FROM_CARD, RESCUING
+    TO_CARD, FROM_CARD, RESCUING, VALVE_READ, VALVE_WRITE, VALVE_CARRY_OUT
 };
 
 struct job {
     const char *name;
     enum which which;
-    struct list kit, pupil; /* of assembling, listing, indexing and cards: the first list and the second; of housekeeping: the frames; of a look-up and
-                               of a rescue: the list */
+    struct list kit, pupil; /* of assembling, listing, indexing and cards: the first list and the second; of housekeeping and of the valve: the frames;
+                               of a look-up and of a rescue: the list */
     struct offsets old;     /* of indexing: an earlier index of the first list; of a look-up: the index */
-    uint32_t each;          /* of housekeeping: bytes of each frame, or of its room; of indexing, cards and rescues: places of the room for one list */
+    uint32_t each;          /* of housekeeping and of the valve: bytes of each frame, or of its room; of indexing, cards and rescues: places of the room
+                               for one list */
     uint32_t table;         /* of a rescue: bytes of the table */
     uint32_t number;        /* of a look-up, and of showing: the command's */
     uint8_t sender;         /* of showing */
@@ -438,6 +512,14 @@ static uint64_t do_job(const struct job *j, bool ours, struct room *r, uint32_t 
     case RESCUING:
         return ours ? timing_rescue(j->kit.bytes, j->kit.size, room, j->each, r->table, j->table, times)
                     : plain_rescue(j->kit.bytes, j->kit.size, room, j->each, r->table, j->table, times);
+    case VALVE_READ:
+        return ours ? timing_valve_read(j->kit.bytes, j->kit.size, j->each, times) : plain_valve_read(j->kit.bytes, j->kit.size, j->each, times);
+    case VALVE_WRITE:
+        return ours ? timing_valve_write(j->kit.bytes, j->kit.size, room, ROOM, j->each, times)
+                    : plain_valve_write(j->kit.bytes, j->kit.size, room, ROOM, j->each, times);
+    case VALVE_CARRY_OUT:
+        return ours ? timing_valve_carry_out(j->kit.bytes, j->kit.size, j->each, times)
+                    : plain_valve_carry_out(j->kit.bytes, j->kit.size, j->each, times);
     default: {
         uint64_t sum = translate(j->which, ours, &j->kit, room, times);
         return j->pupil.size == 0 ? sum : sum * 31 + translate(j->which, ours, &j->pupil, room + ROOM, times);
@@ -504,8 +586,8 @@ static struct job run_job(const char *name, void (*put)(struct list *, unsigned)
     return j;
 }
 
-/* A housekeeping job on these frames, with so many bytes of each or of room for each. */
-static struct job housekeeping_job(const char *name, enum which which, const struct list *frames, uint32_t each)
+/* A job on these frames, of housekeeping or of the valve, with so many bytes of each or of room for each. */
+static struct job frames_job(const char *name, enum which which, const struct list *frames, uint32_t each)
 {
     return (struct job){ .name = name, .which = which, .kit = *frames, .each = each, .units = 1, .aim = 1.2 };
 }
@@ -517,13 +599,13 @@ static void compare_refused_frames(void)
     static struct job j;
     for (uint32_t each = 0; each <= APART; each++) {
         struct list frames = housekeeping_frames();
-        j = housekeeping_job("housekeeping frames cut off or too long", HOUSEKEEPING_READ, &frames, each);
+        j = frames_job("housekeeping frames cut off or too long", HOUSEKEEPING_READ, &frames, each);
         compare(&j);
-        j = housekeeping_job("housekeeping frames in little room", HOUSEKEEPING_WRITE, &frames, each);
+        j = frames_job("housekeeping frames in little room", HOUSEKEEPING_WRITE, &frames, each);
         compare(&j);
         for (unsigned apart = 0; apart < FRAMES; apart++) {
             frames = broken_frames(apart);
-            j = housekeeping_job("broken housekeeping frames", HOUSEKEEPING_READ, &frames, each);
+            j = frames_job("broken housekeeping frames", HOUSEKEEPING_READ, &frames, each);
             compare(&j);
         }
     }
@@ -1011,11 +1093,6 @@ static struct list long_lengths(void)
     return l;
 }
 
-static size_t get16(const uint8_t *s)
-{
-    return (size_t)s[0] << 8 | s[1];
-}
-
 /* How many bytes plain C keeps of a list, and how many of the table it takes. What is kept and the stretches must be the list, each byte once. */
 static struct rescued {
     size_t kept, table;
@@ -1109,6 +1186,92 @@ static void compare_rescues(void)
     compare_rescue("as many stretches as there can be rescued", &l);
 }
 
+/* These frames are read, and carried out one after another by a fresh valve. */
+static void compare_valve_frames(const char *name, const struct list *frames, uint32_t each)
+{
+    static struct job j;
+    j = frames_job(name, VALVE_READ, frames, each);
+    compare(&j);
+    j = frames_job(name, VALVE_CARRY_OUT, frames, each);
+    compare(&j);
+}
+
+/* Whatever words 1 to 4 may be that have to do with arming or firing: in each job frames with each pair of flags, whose word 4 is one of two. */
+static void compare_patterns(void)
+{
+    static const uint16_t values[] = { 0, 0x0001, 0xffff, 0x1810 };
+    for (unsigned choice = 0; choice < 128; choice++) {
+        struct list l = { .size = 0 };
+        for (unsigned i = 0; i < FRAMES; i++) {
+            const uint16_t words[] = { values[choice % 4], values[choice / 4 % 4], values[choice / 16 % 4], values[choice / 64 * 2 + i / 4] };
+            append_valve_frame(&l, i % 4, words);
+        }
+        compare_valve_frames("any pattern of a valve's frame", &l, VALVE_FRAME);
+    }
+}
+
+/* A valve carries these frames out when it is safe, when it is armed and when it is fired, each by itself. */
+static void compare_states(const struct list *frames)
+{
+    for (unsigned i = 0; i < FRAMES; i++) {
+        struct list frame = { .size = VALVE_APART }, l = { .size = 0 };
+        memcpy(frame.bytes, frames->bytes + VALVE_APART * i, VALVE_APART);
+        append_bytes(&l, &frame);
+        append_arming(&l, 0);
+        append_bytes(&l, &frame);
+        append_firing(&l, 0, 0x1810);
+        append_bytes(&l, &frame);
+        append_arming(&l, 0);
+        append_bytes(&l, &frame);
+        append_firing(&l, 0, 0);
+        compare_valve_frames("a valve's frame in every state", &l, VALVE_FRAME);
+    }
+}
+
+/* A fresh valve carries out any four frames of four sorts, twice over: one that arms, one that fires, one that fires with a wrong code, and one whose sum
+   is wrong. */
+static void compare_orders(void)
+{
+    for (unsigned order = 0; order < 256; order++) {
+        struct list l = { .size = 0 };
+        for (unsigned i = 0; i < FRAMES; i++) {
+            unsigned sort = order >> i % 4 * 2 & 3;
+            if (sort == 1 || sort == 2) append_firing(&l, i % 4, sort == 1 ? 0x1810 : 0x1018);
+            else append_arming(&l, i % 4);
+            if (sort == 3) flip(l.bytes + l.size - VALVE_APART, SUM_WORD, 0);
+        }
+        compare_valve_frames("a valve's frames in any order", &l, VALVE_FRAME);
+    }
+}
+
+/* A valve's frames that are refused, which no timed job has: cut off at every length and with bytes left over, one bit of a word or of two wrong, any
+   words 1 to 4; the timed ones written into every room; and what a valve makes of all these, safe, armed and fired. */
+static void compare_valves(void)
+{
+    static struct job j;
+    struct list frames = valve_frames();
+    compare_states(&frames);
+    for (uint32_t each = 0; each <= VALVE_APART; each++) {
+        compare_valve_frames("a valve's frames cut off or too long", &frames, each);
+        j = frames_job("a valve's frames in little room", VALVE_WRITE, &frames, each);
+        compare(&j);
+    }
+    for (unsigned first = 0; first < VALVE_WORDS; first++) {
+        for (unsigned choice = 0; choice < 2 * 16; choice++) {
+            frames = broken_valve_frames(first, first, choice / 2, choice % 2);
+            compare_valve_frames("a valve's frames with a word broken", &frames, VALVE_FRAME);
+            if (choice / 2 == first % 16) compare_states(&frames);
+        }
+        for (unsigned second = 0; second < 2 * first; second++) {
+            frames = broken_valve_frames(first, second / 2, (first + second) % 16, second % 2);
+            compare_valve_frames("a valve's frames with two words broken", &frames, VALVE_FRAME);
+            compare_valve_frames("a valve's frames with two words broken and cut off", &frames, VALVE_FRAME - 1);
+        }
+    }
+    compare_patterns();
+    compare_orders();
+}
+
 /* How many records of a run have code 0. */
 static unsigned accepted(const struct job *j)
 {
@@ -1148,7 +1311,7 @@ static void print_growth(struct job *jobs, int n, const char *of, const char *he
     }
 }
 
-enum { ALL = 30, SIZES = 3 };
+enum { ALL = 32, SIZES = 3 };
 
 /* The lists of two listing jobs are indexed, the latter also from its first 511 commands; and one command of the latter is looked up, and shown by the
    walk. */
@@ -1181,13 +1344,13 @@ static void rescue_jobs(struct job *jobs)
 
 static void make_jobs(struct job *jobs)
 {
-    struct list frames = housekeeping_frames();
+    struct list frames = housekeeping_frames(), valves = valve_frames();
     jobs[0] = (struct job){ .name = "reading a command", .which = READ, .units = 1, .aim = 1.0 };
     jobs[1] = (struct job){ .name = "writing a command", .which = WRITE, .units = 1, .aim = 1.2 };
     jobs[2] = (struct job){ .name = "reading a frame", .which = FRAME_READ, .units = 1, .aim = 1.2 };
     jobs[3] = (struct job){ .name = "writing a frame", .which = FRAME_WRITE, .units = 1, .aim = 1.2 };
-    jobs[4] = housekeeping_job("reading a housekeeping frame", HOUSEKEEPING_READ, &frames, HOUSEKEEPING);
-    jobs[5] = housekeeping_job("writing a housekeeping frame", HOUSEKEEPING_WRITE, &frames, HOUSEKEEPING);
+    jobs[4] = frames_job("reading a housekeeping frame", HOUSEKEEPING_READ, &frames, HOUSEKEEPING);
+    jobs[5] = frames_job("writing a housekeeping frame", HOUSEKEEPING_WRITE, &frames, HOUSEKEEPING);
     jobs[6] = run_job("a run of 8 plain commands", plain_command, 8);
     jobs[7] = run_job("a run of 8 macro commands", macro_command, 8);
     jobs[8] = run_job("a run of 512 plain commands", plain_command, 512);
@@ -1211,6 +1374,8 @@ static void make_jobs(struct job *jobs)
     jobs[23].name = "512 bare commands to a card";
     jobs[24].name = "512 bare commands from a card";
     rescue_jobs(jobs + 25);
+    jobs[30] = frames_job("reading a valve's frame", VALVE_READ, &valves, VALVE_FRAME);
+    jobs[31] = frames_job("writing a valve's frame", VALVE_WRITE, &valves, VALVE_FRAME);
 }
 
 int main(int argc, char **argv)
@@ -1229,6 +1394,7 @@ int main(int argc, char **argv)
     compare_indexes(others, &bares);
     compare_cards();
     compare_rescues();
+    compare_valves();
     for (int i = 0; i < SIZES; i++) {
         runs[i] = run_job("plain commands", plain_command, sizes[i]);
         runs[SIZES + i] = run_job("macro commands", macro_command, sizes[i]);

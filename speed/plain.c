@@ -3,7 +3,8 @@
    the macros share one pool of entries by those of request Q-9, a second hands over a group of them by those of request Q-2, no picture is asked for
    with the power off by those of request Q-3, a number out of range is told with its limits by those of request Q-6, the numbers of the latest run
    are kept, and sent as housekeeping, by those of request Q-11, a command is looked up through an index by those of request Q-14, a list is moved to
-   a memory card and back by those of request Q-4, and a damaged list is rescued by those of request Q-10. */
+   a memory card and back by those of request Q-4, and a damaged list is rescued by those of request Q-10. The gas valve, a bench of its own, goes by
+   those of request Q-7. */
 #include "plain.h"
 #include <stdbool.h>
 #include <string.h>
@@ -12,6 +13,8 @@ enum { MACROS = 8, POOL = 192, NONE = 255, LONGEST = 600, GROUP = 64, FOR_EVER =
 enum { LAST_PIXEL = 1023, LAST_ALGORITHM = 2, LAST_GOAL = 0x447fffff /* the bits of the largest single below 1024 */ };
 enum { RECEIVED_TAG = 0x12, FAILED_TAG = 0x13, CODE_TAG = 0x14, FREE_TAG = 0x15, HEAD = 2 /* a tag and a length, before each value */ };
 enum { RECEIVED_AT = 0, FAILED_AT = 6, CODE_AT = 12, FREE_AT = 15, HOUSEKEEPING = 18 /* bytes of a whole housekeeping frame */ };
+enum { VALVE_FRAME = 64 /* bytes */, VALVE_WORDS = 32, OCPL = 0x8000, QUIET = 0x4000, IDENTIFIER = 0x000e /* below these two flags */ };
+enum { YES = 0xffff, MASK = 0x0001, FIRING_CODE = 0x1810, ARMED = 0x4000, FIRED = 0x8000 /* bits of the valve's status */ };
 enum { KIT = 1, PUPIL = 2, INDEX = 512 /* the most offsets of an index */ };
 enum { TEXT = 32768, DIGITS = 5, LISTED = 8192 /* above the 7,846 bytes that a list's text has at most */ };
 enum { LONGEST_COMMAND = 4 * 32 /* bytes */ };
@@ -70,6 +73,16 @@ struct frame {
 struct housekeeping {
     struct latest latest;
     uint8_t free; /* entries of the pool */
+};
+
+/* A frame to the gas valve: its two flags, and whether it arms or fires. */
+struct valve_frame {
+    bool ocpl, quiet, fires;
+    uint16_t code; /* where it fires */
+};
+
+struct valve {
+    bool armed, fired;
 };
 
 /* An argument out of range: which one it is, 1 or 2, its value, and the lowest and the highest allowed. All zeros where there is none. */
@@ -400,6 +413,65 @@ static uint8_t write_housekeeping(const struct housekeeping *h, uint8_t *room, s
     put_head(room + FREE_AT, FREE_TAG, 1);
     room[FREE_AT + HEAD] = h->free;
     return 0;
+}
+
+/* 40 to 44. */
+static uint8_t read_valve_frame(const uint8_t *s, size_t size, struct valve_frame *f)
+{
+    if (size != VALVE_FRAME) return 40;
+    uint16_t head = get16(s), update = get16(s + 2), mask = get16(s + 4), fire = get16(s + 6), code = get16(s + 8);
+    if (get16(s + 10) != (uint16_t)(head + update + mask + fire + code)) return 41;
+    if ((head & ~(OCPL | QUIET)) != IDENTIFIER) return 42;
+    for (unsigned i = 6; i < VALVE_WORDS; i++) {
+        if (get16(s + 2 * i) != 0) return 43;
+    }
+    if (update == YES && mask == MASK && fire == 0 && code == 0) f->fires = false;
+    else if (update == 0 && mask == 0 && fire == YES) f->fires = true;
+    else return 44;
+    f->ocpl = (head & OCPL) != 0;
+    f->quiet = (head & QUIET) != 0;
+    f->code = code;
+    return 0;
+}
+
+/* 24. */
+static uint8_t write_valve_frame(const struct valve_frame *f, uint8_t *room, size_t fits)
+{
+    if (fits < VALVE_FRAME) return 24;
+    uint16_t head = (uint16_t)((f->ocpl ? OCPL : 0) | (f->quiet ? QUIET : 0) | IDENTIFIER), sum = head;
+    memset(room, 0, VALVE_FRAME);
+    put16(room, head);
+    if (f->fires) {
+        put16(room + 6, YES);
+        put16(room + 8, f->code);
+        sum += YES + f->code;
+    } else {
+        put16(room + 2, YES);
+        put16(room + 4, MASK);
+        sum += YES + MASK;
+    }
+    put16(room + 10, sum);
+    return 0;
+}
+
+/* 40 to 46. A fired valve counts as armed. */
+static uint8_t carry_out(struct valve *v, const uint8_t *s, size_t size)
+{
+    struct valve_frame f;
+    uint8_t code = read_valve_frame(s, size, &f);
+    if (code != 0) return code;
+    if (f.fires) {
+        if (!v->armed) return 45;
+        if (f.code != FIRING_CODE) return 46;
+        v->fired = true;
+    }
+    v->armed = true;
+    return 0;
+}
+
+static uint16_t valve_status(const struct valve *v)
+{
+    return (uint16_t)((v->armed ? ARMED : 0) | (v->fired ? FIRED : 0));
 }
 
 static void fresh(struct bench *b)
@@ -1313,6 +1385,12 @@ static uint64_t with_housekeeping(uint64_t sum, const struct housekeeping *h)
     return mixed(mixed(sum, h->latest.code), h->free);
 }
 
+static uint64_t with_valve_frame(uint64_t sum, const struct valve_frame *f)
+{
+    sum = mixed(mixed(mixed(sum, f->ocpl), f->quiet), f->fires);
+    return f->fires ? mixed(sum, f->code) : sum;
+}
+
 static uint64_t with_housekept(uint64_t sum, const struct bench *b)
 {
     struct housekeeping h;
@@ -1415,6 +1493,46 @@ uint64_t plain_housekeeping_write(const uint8_t *bytes, size_t size, uint8_t *ro
     for (uint32_t i = 0; i < times; i++) {
         size_t k = i % 8;
         sum = mixed(sum, write_housekeeping(&frames[k], room + k * 32, each));
+    }
+    return sum;
+}
+
+uint64_t plain_valve_read(const uint8_t *bytes, size_t size, uint32_t each, uint32_t times)
+{
+    uint64_t sum = 0;
+    if (size < 640 || each > 80) return 0;
+    for (uint32_t i = 0; i < times; i++) {
+        struct valve_frame f;
+        uint8_t code = read_valve_frame(bytes + i % 8 * 80, each, &f);
+        sum = code == 0 ? with_valve_frame(sum, &f) : mixed(sum, code);
+    }
+    return sum;
+}
+
+uint64_t plain_valve_write(const uint8_t *bytes, size_t size, uint8_t *room, size_t fits, uint32_t each, uint32_t times)
+{
+    struct valve_frame frames[8];
+    uint64_t sum = 0;
+    if (size < 640 || fits < 640 || each > 80) return 0;
+    for (int i = 0; i < 8; i++) {
+        if (read_valve_frame(bytes + i * 80, VALVE_FRAME, &frames[i]) != 0) frames[i] = (struct valve_frame){ 0 };
+    }
+    for (uint32_t i = 0; i < times; i++) {
+        size_t k = i % 8;
+        uint8_t code = write_valve_frame(&frames[k], room + k * 80, each);
+        sum = mixed(sum, code == 0 ? VALVE_FRAME : code);
+    }
+    return sum;
+}
+
+uint64_t plain_valve_carry_out(const uint8_t *bytes, size_t size, uint32_t each, uint32_t times)
+{
+    struct valve v = { 0 };
+    uint64_t sum = 0;
+    if (size < 640 || each > 80) return 0;
+    for (uint32_t i = 0; i < times; i++) {
+        sum = mixed(sum, carry_out(&v, bytes + i % 8 * 80, each));
+        sum = mixed(sum, valve_status(&v));
     }
     return sum;
 }

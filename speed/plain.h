@@ -10,6 +10,9 @@
     uint64_t side##_frame_write(const uint8_t *bytes, size_t size, uint8_t *room, size_t fits, uint32_t times); \
     uint64_t side##_housekeeping_read(const uint8_t *bytes, size_t size, uint32_t each, uint32_t times); \
     uint64_t side##_housekeeping_write(const uint8_t *bytes, size_t size, uint8_t *room, size_t fits, uint32_t each, uint32_t times); \
+    uint64_t side##_valve_read(const uint8_t *bytes, size_t size, uint32_t each, uint32_t times); \
+    uint64_t side##_valve_write(const uint8_t *bytes, size_t size, uint8_t *room, size_t fits, uint32_t each, uint32_t times); \
+    uint64_t side##_valve_carry_out(const uint8_t *bytes, size_t size, uint32_t each, uint32_t times); \
     uint64_t side##_run(const uint8_t *kit, size_t kits, const uint8_t *pupil, size_t pupils, uint8_t *room, size_t fits, uint32_t times); \
     uint64_t side##_seconds(const uint8_t *list, size_t size, uint8_t *room, size_t fits, uint32_t seconds, uint32_t times); \
     uint64_t side##_assemble(const uint8_t *text, size_t size, uint8_t *room, size_t fits, uint32_t times); \

@@ -10,6 +10,8 @@ use index::Indexed;
 use rescue::Rescued;
 use store::Group;
 use text::Translated;
+use valve::Valve;
+use valve::Verdict;
 use wire::Command;
 use wire::Told;
 
@@ -21,8 +23,10 @@ const COMMAND: usize = 16;
 const FRAMES: usize = 8;
 // How many numbers are asked for: one and its neighbours.
 const NEIGHBOURS: u64 = 4;
-// How far apart housekeeping frames begin, so that there are bytes behind each which may be left over.
+// How far apart housekeeping frames begin, so that there are bytes behind each which may be left over; and how far a valve's.
 const APART: usize = 32;
+
+const VALVE_APART: usize = 80;
 
 // A number that depends on every number folded in so far.
 fn mixed(sum: u64, value: u64) -> u64 {
@@ -101,6 +105,19 @@ fn with_modes(sum: u64, f: Frame) -> u64 {
 fn with_housekeeping(sum: u64, h: Housekeeping) -> u64 {
     let numbers = mixed(mixed(sum, h.received as u64), h.failed as u64);
     mixed(mixed(numbers, h.code as u64), h.free as u64)
+}
+
+// Does it fire? Then with which code.
+fn with_act(sum: u64, act: valve::Act) -> u64 {
+    match act {
+        valve::Act::Arm => mixed(sum, 0),
+        valve::Act::Fire(code) => mixed(mixed(sum, 1), code as u64),
+    }
+}
+
+fn with_valve_frame(sum: u64, f: valve::Frame) -> u64 {
+    let act = f.act;
+    with_act(with_bit(with_bit(sum, f.ocpl), f.quiet), act)
 }
 
 fn read_one(sum: u64, bytes: &[u8]) -> u64 {
@@ -373,6 +390,130 @@ pub extern "C" fn timing_housekeeping_write(
         let end = at + size;
         let h = frames[k];
         sum = write_housekeeping_one(sum, h, &mut room[at..end]);
+        i += 1;
+    }
+    sum
+}
+
+fn read_valve_one(sum: u64, bytes: &[u8]) -> u64 {
+    match valve::read_frame(bytes) {
+        valve::Reading::Taken(f) => with_valve_frame(sum, f),
+        valve::Reading::Refused(refusal) => mixed(sum, valve::code_of(refusal) as u64),
+    }
+}
+
+// Reads a valve's frame so many times, in turn each of the eight that begin 80 bytes apart; so many bytes of each.
+#[no_mangle]
+pub extern "C" fn timing_valve_read(bytes: &[u8], each: u32, times: u32) -> u64 {
+    if bytes.len() < FRAMES * VALVE_APART {
+        return 0;
+    }
+    let size = each as usize;
+    if VALVE_APART < size {
+        return 0;
+    }
+    let mut sum: u64 = 0;
+    let mut i: u32 = 0;
+    while i < times {
+        let at = (i as usize) % FRAMES * VALVE_APART;
+        let end = at + size;
+        sum = read_valve_one(sum, &bytes[at..end]);
+        i += 1;
+    }
+    sum
+}
+
+fn arming_frame() -> valve::Frame {
+    valve::Frame {
+        ocpl: false,
+        quiet: false,
+        act: valve::Act::Arm,
+    }
+}
+
+// The frame that these bytes are; an arming one without flags where they are none.
+fn valve_frame_of(bytes: &[u8]) -> valve::Frame {
+    match valve::read_frame(bytes) {
+        valve::Reading::Taken(f) => f,
+        valve::Reading::Refused(_) => arming_frame(),
+    }
+}
+
+fn valve_frames_of(bytes: &[u8]) -> [valve::Frame; 8] {
+    let none = arming_frame();
+    let mut frames = [none; 8];
+    let mut i: usize = 0;
+    while i < FRAMES {
+        let at = i * VALVE_APART;
+        let end = at + valve::SIZE;
+        if end <= bytes.len() {
+            frames[i] = valve_frame_of(&bytes[at..end]);
+        }
+        i += 1;
+    }
+    frames
+}
+
+fn write_valve_one(sum: u64, f: valve::Frame, room: &mut [u8]) -> u64 {
+    match valve::write_frame(f, room) {
+        valve::Writing::Written => mixed(sum, valve::SIZE as u64),
+        valve::Writing::NoRoom => mixed(sum, 24),
+    }
+}
+
+// Writes a valve's frame so many times, in turn each of the eight that begin 80 bytes apart in `bytes`, to the same place of the room; each has so many
+// bytes of room.
+#[no_mangle]
+pub extern "C" fn timing_valve_write(bytes: &[u8], room: &mut [u8], each: u32, times: u32) -> u64 {
+    if room.len() < FRAMES * VALVE_APART {
+        return 0;
+    }
+    let size = each as usize;
+    if VALVE_APART < size {
+        return 0;
+    }
+    let frames = valve_frames_of(bytes);
+    let mut sum: u64 = 0;
+    let mut i: u32 = 0;
+    while i < times {
+        let k = (i as usize) % FRAMES;
+        let at = k * VALVE_APART;
+        let end = at + size;
+        let f = frames[k];
+        sum = write_valve_one(sum, f, &mut room[at..end]);
+        i += 1;
+    }
+    sum
+}
+
+fn with_verdict(sum: u64, verdict: Verdict) -> u64 {
+    match verdict {
+        Verdict::Accepted => mixed(sum, 0),
+        Verdict::Refused(refusal) => mixed(sum, valve::code_of(refusal) as u64),
+    }
+}
+
+// Has a fresh valve carry out so many frames, in turn each of the eight that begin 80 bytes apart, so many bytes of each; the code and the status word
+// behind each.
+#[no_mangle]
+pub extern "C" fn timing_valve_carry_out(bytes: &[u8], each: u32, times: u32) -> u64 {
+    if bytes.len() < FRAMES * VALVE_APART {
+        return 0;
+    }
+    let size = each as usize;
+    if VALVE_APART < size {
+        return 0;
+    }
+    let mut valve = Valve::fresh();
+    let mut sum: u64 = 0;
+    let mut i: u32 = 0;
+    while i < times {
+        let at = (i as usize) % FRAMES * VALVE_APART;
+        let end = at + size;
+        let carried = valve.carry_out(&bytes[at..end]);
+        valve = carried.valve;
+        let verdict = carried.verdict;
+        sum = mixed(with_verdict(sum, verdict), valve.status() as u64);
         i += 1;
     }
     sum
