@@ -1,6 +1,6 @@
 -- The answers of the reader and of the writer, one law to an outcome.
 use Prim.Native.Nat.{ℕ, _%_, _≤_, _<_}
-use mathlib.Core.Path.{_≡_, refl, sym, ap, _∙_}
+use mathlib.Core.Path.{_≡_, refl, sym, ap, ap₂, _∙_}
 use mathlib.Core.Logic.{_≢_}
 use mathlib.Core.List.{List, [], _∷_, _++_}
 use mathlib.Core.Bool.{true, false}
@@ -15,7 +15,7 @@ use Rattle.words.proofs.Laws.{sets-written}
 use Rattle.words.proofs.Stores.{laid-first, laid-next}
 use Rattle.valve.specs.declared.Act.{Act}
 use Rattle.valve.specs.declared.Frame.{Frame}
-use Rattle.valve.specs.Frame.{wordNo, wordsIn, bytesOf, checksum, zeros, allZero, actWords, headOf, summedWords, frontWords, frameBytes, arms, fires, framed, frameAt}
+use Rattle.valve.specs.Frame.{wordNo, wordsIn, bytesOf, checksum, zeros, allZero, headOf, frontWords, bytesWith, frameBytes, arms, fires, framed, frameAt}
 use Rattle.valve.specs.Answers.{Answer, readChecks, readCode, readOf, writeCode}
 
 abbrev pub refusedWith : ℕ → Answer
@@ -93,37 +93,42 @@ bytes-append : (vs ws : List ℕ) → bytesOf (vs ++ ws) ≡ bytesOf vs ++ bytes
 bytes-append [] ws = refl
 bytes-append (v ∷ vs) ws = ap (λ l. halfBytes v ++ l) (bytes-append vs ws)
 
-twelve : (head sum : ℕ) (act : Act) → length (bytesOf ((head ∷ actWords act) ++ (sum ∷ []))) ≡ 12
-twelve head sum Act.Arm = refl
-twelve head sum (Act.Fire code) = refl
+front-length : (head : ℕ) (act : Act) → length (bytesOf (frontWords head act)) ≡ 12
+front-length head Act.Arm = refl
+front-length head (Act.Fire code) = refl
 
-module _ (f : Frame) where
-  pub front-length : length (bytesOf (frontWords f)) ≡ 12
-  front-length = twelve (headOf f) (checksum (summedWords f)) (f .act)
+module _ (head : ℕ) (act : Act) where
+  bytes-split : bytesWith head act ≡ bytesOf (frontWords head act) ++ bytesOf (zeros 26)
+  unfolding bytesWith
+  bytes-split = bytes-append (frontWords head act) (zeros 26)
 
-  frame-split : frameBytes f ≡ bytesOf (frontWords f) ++ bytesOf (zeros 26)
-  unfolding frameBytes
-  frame-split = bytes-append (frontWords f) (zeros 26)
+  pub bytes-length : length (bytesWith head act) ≡ 64
+  bytes-length =
+      ap length bytes-split ∙ length-append (bytesOf (frontWords head act)) (bytesOf (zeros 26)) ∙ omega (arith, front-length head act)
 
-  pub frame-length : length (frameBytes f) ≡ 64
-  frame-length = ap length frame-split ∙ length-append (bytesOf (frontWords f)) (bytesOf (zeros 26)) ∙ omega (arith, front-length)
+  -- The twelve bytes at the front, the zeros behind them.
+  pub placed : (room : List ℕ) → 64 ≤ length room → (front room₁ room₂ : List ℕ) (next : ℕ) → front ≡ bytesOf (frontWords head act)
+      → next ≡ placeAfter front 0 room → room₁ ≡ storedAt front 0 room → room₂ ≡ storedAt (bytesOf (zeros 26)) next room₁
+      → room₂ ≡ sets room 0 (bytesWith head act)
+  placed room enough front room₁ room₂ next own behind put put-zeros =
+      let size : length front ≡ 12 = ap length own ∙ front-length head act in
+      let first = laid-first front 0 room room₁ next (omega (arith, size)) behind put in
+      let all = laid-next first (bytesOf (zeros 26)) room₂ (placeAfter (bytesOf (zeros 26)) next room₁) (omega (arith, size)) refl put-zeros in
+      all .stored ∙ ap (sets room 0) (ap (λ l. l ++ bytesOf (zeros 26)) own ∙ sym bytes-split)
 
-  module _ (room : List ℕ) where
-    pub no-room : length room < 64 → (24 ≡ writeCode f room) × (room ≡ written (frameBytes f) room)
-    unfolding writeCode
-    no-room short =
-        let none : hasRoom (frameBytes f) room ≡ false = lt-leb (length (frameBytes f)) (length room) (omega (arith, frame-length)) in
-        (rw none, rw none)
+module _ (f : Frame) (room : List ℕ) where
+  pub no-room : length room < 64 → (24 ≡ writeCode f room) × (room ≡ written (frameBytes f) room)
+  unfolding writeCode
+  no-room short =
+      let none : hasRoom (frameBytes f) room ≡ false =
+      lt-leb (length (frameBytes f)) (length room) (omega (arith, bytes-length (headOf f) (f .act))) in
+      (rw none, rw none)
 
-    -- The twelve bytes at the front, the zeros behind them.
-    pub placed : 64 ≤ length room → (front room₁ room₂ : List ℕ) (next : ℕ) → front ≡ bytesOf (frontWords f)
-        → next ≡ placeAfter front 0 room → room₁ ≡ storedAt front 0 room → room₂ ≡ storedAt (bytesOf (zeros 26)) next room₁
-        → (0 ≡ writeCode f room) × (room₂ ≡ written (frameBytes f) room)
-    unfolding writeCode
-    placed enough front room₁ room₂ next own behind put put-zeros =
-        let fits : hasRoom (frameBytes f) room ≡ true = le-leb (length (frameBytes f)) (length room) (omega (arith, frame-length)) in
-        let size : length front ≡ 12 = ap length own ∙ front-length in
-        let first = laid-first front 0 room room₁ next (omega (arith, size)) behind put in
-        let all = laid-next first (bytesOf (zeros 26)) room₂ (placeAfter (bytesOf (zeros 26)) next room₁) (omega (arith, size)) refl put-zeros in
-        let whole : front ++ bytesOf (zeros 26) ≡ frameBytes f = ap (λ l. l ++ bytesOf (zeros 26)) own ∙ sym frame-split in
-        (rw fits, all .stored ∙ ap (sets room 0) whole ∙ sets-written (frameBytes f) room (omega (arith, frame-length)))
+  pub put : 64 ≤ length room → (head : ℕ) (act : Act) → head ≡ headOf f → f .act ≡ act → (room₁ : List ℕ) → room₁ ≡ sets room 0 (bytesWith head act)
+      → (0 ≡ writeCode f room) × (room₁ ≡ written (frameBytes f) room)
+  unfolding writeCode
+  put enough head act own asks room₁ stored =
+      let size = bytes-length (headOf f) (f .act) in
+      let fits : hasRoom (frameBytes f) room ≡ true = le-leb (length (frameBytes f)) (length room) (omega (arith, size)) in
+      let same : bytesWith head act ≡ frameBytes f = ap₂ bytesWith own (sym asks) in
+      (rw fits, stored ∙ ap (sets room 0) same ∙ sets-written (frameBytes f) room (omega (arith, size)))

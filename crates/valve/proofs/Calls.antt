@@ -15,23 +15,23 @@ use Rattle.words.proofs.Order.{NoneDue}
 use Rattle.words.proofs.Front.{Bytes}
 use Rattle.valve.specs.declared.Frame.{Frame}
 use Rattle.valve.specs.declared.state.Valve.{Valve}
-use Rattle.valve.specs.Frame.{frameBytes}
+use Rattle.valve.specs.Frame.{headOf, frameBytes}
 use Rattle.valve.specs.Answers.{readOf, writeChecks, writeCode}
 use Rattle.valve.specs.State.{actChecks, outcomeBy, carryCode, carryOut}
 use Rattle.valve.proofs.Order.{write-order}
-use Rattle.valve.proofs.Answers.{takenAs, frame-length}
+use Rattle.valve.proofs.Answers.{takenAs, bytes-length}
 use Rattle.valve.proofs.States.{obeyed}
 use Rattle.valve.proofs.RoundTrip.{read-written, no-other}
 
 module _ (f : Frame) (room : List ℕ) where
   -- What a frame leaves in a room that has its 64 bytes.
   stands : hasRoom (frameBytes f) room ≡ true → written (frameBytes f) room ≡ frameBytes f ++ drop 64 room
-  stands fits = rw fits (ap (λ n. frameBytes f ++ drop n room) (frame-length f))
+  stands fits = rw fits (ap (λ n. frameBytes f ++ drop n room) (bytes-length (headOf f) (f .act)))
 
   pub accepts : 64 ≤ length room → (writeCode f room ≡ 0) × (written (frameBytes f) room ≡ frameBytes f ++ drop 64 room)
   unfolding writeCode
   accepts enough =
-      let fits : hasRoom (frameBytes f) room ≡ true = le-leb (length (frameBytes f)) (length room) (omega (arith, frame-length f)) in
+      let fits : hasRoom (frameBytes f) room ≡ true = le-leb (length (frameBytes f)) (length room) (omega (arith, bytes-length (headOf f) (f .act))) in
       (rw fits, stands fits)
 
   -- Where `write_frame` gave 0, `read_frame` of the first 64 bytes of the room afterwards gives the frame back with code 0.
@@ -39,7 +39,7 @@ module _ (f : Frame) (room : List ℕ) where
   write-then-read e =
       let rows : NoneDue (writeChecks f room) = write-order f room .accepted .0 e in
       ap (λ bytes. readOf (take 64 bytes)) (stands (not-false (hasRoom (frameBytes f) room) (rows .0)))
-      ∙ ap readOf (take-at (frameBytes f) (drop 64 room) 64 (frame-length f)) ∙ read-written f
+      ∙ ap readOf (take-at (frameBytes f) (drop 64 room) 64 (bytes-length (headOf f) (f .act))) ∙ read-written f
 
   -- Where it refused, the room is as it was.
   pub refused-writing : writeCode f room ≢ 0 → written (frameBytes f) room ≡ room

@@ -6,7 +6,7 @@ use mathlib.Core.Bool.{true, false}
 use lib.ListN.{take, drop}
 use Rattle.valve.specs.declared.Act.{Act}
 use Rattle.valve.specs.declared.state.Valve.{Valve}
-use Rattle.valve.specs.Frame.{bytesOf, zeros, frameBytes}
+use Rattle.valve.specs.Frame.{bytesOf, zeros, bytesWith, frameBytes}
 use Rattle.valve.specs.Answers.{readCode}
 use Rattle.valve.specs.State.{statusOf, carryCode, carryOut}
 use Rattle.valve.specs.History.{sent}
@@ -28,7 +28,7 @@ pub written :
     × (frameBytes (record { ocpl = false; quiet = false; act = Act.Fire 6160 }) ≡ fire)
     × (frameBytes (record { ocpl = true; quiet = true; act = Act.Arm }) ≡ frame (49166 ∷ 65535 ∷ 1 ∷ 0 ∷ 0 ∷ 49166 ∷ []))
     × (frameBytes (record { ocpl = true; quiet = false; act = Act.Fire 65535 }) ≡ frame (32782 ∷ 0 ∷ 0 ∷ 65535 ∷ 65535 ∷ 32780 ∷ []))
-unfolding frameBytes
+unfolding bytesWith
 written = (refl, refl, refl, refl)
 
 -- Each refusal of the bytes: 63, 65 and no bytes; a sum that is one off, and one that would be right over words 0 to 5; another identifier, where a flag makes

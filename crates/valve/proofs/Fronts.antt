@@ -11,8 +11,7 @@ use lib.Seq.{take-suc}
 use lib.Dec.{eqb}
 use borrow.Author.Tests.{eq-eqb, ne-eqb}
 use Rattle.valve.specs.declared.Act.{Act}
-use Rattle.valve.specs.declared.Frame.{Frame}
-use Rattle.valve.specs.Frame.{wordNo, wordsIn, bytesOf, total, checksum, allZero, same, actWords, headOf, frontWords}
+use Rattle.valve.specs.Frame.{wordNo, wordsIn, bytesOf, total, checksum, allZero, same, actWords, frontWords}
 
 -- Six words, one by one.
 abbrev sixOf : List ℕ → List ℕ
@@ -118,13 +117,10 @@ flag-most false bit = omega arith
 abbrev sixWith : ℕ → List ℕ → ℕ → List ℕ
 sixWith head asked sum = head ∷ getD asked 0 0 ∷ getD asked 1 0 ∷ getD asked 2 0 ∷ getD asked 3 0 ∷ sum ∷ []
 
-summed-up : (head : ℕ) (act : Act)
-    → sixWith head (actWords act) (checksum (take 5 (sixWith head (actWords act) 0))) ≡ (head ∷ actWords act) ++ (checksum (head ∷ actWords act) ∷ [])
+summed-up : (head : ℕ) (act : Act) → sixWith head (actWords act) (checksum (take 5 (sixWith head (actWords act) 0))) ≡ frontWords head act
 summed-up head Act.Arm = refl
 summed-up head (Act.Fire code) = refl
 
-pub front-made : (f : Frame) (ocpl quiet : ℕ) (asked : List ℕ) (sum : ℕ) → ocpl ≡ cond (f .ocpl) 32768 0 → quiet ≡ cond (f .quiet) 16384 0
-    → asked ≡ actWords (f .act) → sum ≡ checksum (take 5 (sixWith (ocpl + quiet + 14) asked 0)) → sixWith (ocpl + quiet + 14) asked sum ≡ frontWords f
-front-made f ocpl quiet asked sum is-ocpl is-quiet is-asked is-sum =
-    ap (sixWith (ocpl + quiet + 14) asked) is-sum
-    ∙ rw (is-ocpl, is-quiet, is-asked) (summed-up (headOf f) (f .act))
+pub front-made : (head : ℕ) (act : Act) (asked : List ℕ) (sum : ℕ) → asked ≡ actWords act → sum ≡ checksum (take 5 (sixWith head asked 0))
+    → sixWith head asked sum ≡ frontWords head act
+front-made head act asked sum own summed = ap (sixWith head asked) summed ∙ rw own (summed-up head act)

@@ -11,10 +11,10 @@ use Rattle.words.specs.BigEndian.{byteAt, halfBytes}
 use Rattle.words.proofs.Front.{Bytes, half-back}
 use Rattle.valve.specs.declared.Act.{Act}
 use Rattle.valve.specs.declared.Frame.{Frame}
-use Rattle.valve.specs.Frame.{wordNo, wordsIn, bytesOf, checksum, allZero, same, actWords, headOf, summedWords, frontWords, frameWords, frameBytes, framed, frameAt}
+use Rattle.valve.specs.Frame.{wordNo, wordsIn, bytesOf, checksum, allZero, same, actWords, headOf, summedWords, frontWords, zeros, bytesWith, frameBytes, framed, frameAt}
 use Rattle.valve.specs.Answers.{Answer, readCode, readOf}
 use Rattle.valve.proofs.Accepted.{Accepted, accepted}
-use Rattle.valve.proofs.Answers.{takenAs, frame-length, arming, firing}
+use Rattle.valve.proofs.Answers.{takenAs, bytes-length, arming, firing}
 
 -- A word further on is one of the bytes behind the first two.
 word-on : (a b : ℕ) (s : List ℕ) (i : ℕ) → wordNo (a ∷ b ∷ s) (suc i) ≡ wordNo s i
@@ -55,31 +55,35 @@ head-back true false act = refl
 head-back false true act = refl
 head-back false false act = refl
 
+-- The words of a frame.
+abbrev wordsOf : Frame → List ℕ
+wordsOf f = frontWords (headOf f) (f .act) ++ zeros 26
+
 -- What is written of a frame is read as that frame.
 module _ (ocpl quiet : Bool) where
   abbrev with : Act → Frame
   with act = record { ocpl = ocpl; quiet = quiet; act = act }
 
   back : (act : Act) → readOf (frameBytes (with act)) ≡ takenAs (with act)
-  unfolding frameBytes
+  unfolding bytesWith
   back Act.Arm =
-      let words = frameWords (with Act.Arm) in
+      let words = wordsOf (with Act.Arm) in
       let s = bytesOf words in
       let head = word-back words 0 in
       sym (
-      arming s (frame-length (with Act.Arm)) (word-back words 5 ∙ ap checksum (sym (words-back words 0 5)))
+      arming s (bytes-length (headOf (with Act.Arm)) Act.Arm) (word-back words 5 ∙ ap checksum (sym (words-back words 0 5)))
       (ap (λ w. w % 16384) head ∙ head-known ocpl quiet)
       (ap allZero (words-back words 6 26))
       (ap (λ ws. same ws (actWords Act.Arm)) (words-back words 1 4))
       )
       ∙ ap (λ w. takenAs (framed w Act.Arm)) head ∙ ap takenAs (head-back ocpl quiet Act.Arm)
   back (Act.Fire code) =
-      let words = frameWords (with (Act.Fire code)) in
+      let words = wordsOf (with (Act.Fire code)) in
       let s = bytesOf words in
       let head = word-back words 0 in
       let own : (eqb code code && true) ≡ true = rw (eq-eqb code code refl) in
       sym (
-      firing s (frame-length (with (Act.Fire code))) (word-back words 5 ∙ ap checksum (sym (words-back words 0 5)))
+      firing s (bytes-length (headOf (with (Act.Fire code))) (Act.Fire code)) (word-back words 5 ∙ ap checksum (sym (words-back words 0 5)))
       (ap (λ w. w % 16384) head ∙ head-known ocpl quiet)
       (ap allZero (words-back words 6 26))
       (ap (λ ws. same ws (actWords Act.Arm)) (words-back words 1 4))
@@ -117,16 +121,16 @@ head-again w act small known = go (eqb (w / 32768) 1) refl (eqb (w / 16384 % 2) 
     go false o false q = omega (arith, eqb-false (w / 32768) 1 o, eqb-false (w / 16384 % 2) 1 q, small, known)
 
 -- Writing the frame that was read gives the bytes again.
-words-again : (s : List ℕ) → Bytes s → Accepted s → frameWords (frameAt s) ≡ wordsIn s 0 32
+words-again : (s : List ℕ) → Bytes s → Accepted s → wordsOf (frameAt s) ≡ wordsIn s 0 32
 words-again s bytes known =
     let head : headOf (frameAt s) ≡ wordNo s 0 = head-again (wordNo s 0) (frameAt s .act) (omega (arith, bytes 0, bytes 1)) (known .known) in
-    let summed : summedWords (frameAt s) ≡ wordsIn s 0 5 = ap₂ (λ x xs. x ∷ xs) head (sym (known .asks)) in
-    let sum : checksum (summedWords (frameAt s)) ≡ wordNo s 5 = ap checksum summed ∙ sym (known .sum) in
-    let front : frontWords (frameAt s) ≡ wordsIn s 0 6 = ap₂ (λ xs x. xs ++ (x ∷ [])) summed sum in
+    let summed : summedWords (headOf (frameAt s)) (frameAt s .act) ≡ wordsIn s 0 5 = ap₂ (λ x xs. x ∷ xs) head (sym (known .asks)) in
+    let sum : checksum (summedWords (headOf (frameAt s)) (frameAt s .act)) ≡ wordNo s 5 = ap checksum summed ∙ sym (known .sum) in
+    let front : frontWords (headOf (frameAt s)) (frameAt s .act) ≡ wordsIn s 0 6 = ap₂ (λ xs x. xs ++ (x ∷ [])) summed sum in
     ap₂ (λ xs ys. xs ++ ys) front (sym (known .rest))
 
 pub written-read : (s : List ℕ) → Bytes s → readCode s ≡ 0 → frameBytes (frameAt s) ≡ s
-unfolding frameBytes
+unfolding bytesWith
 written-read s bytes e =
     let known = accepted s e in
     ap bytesOf (words-again s bytes known) ∙ bytes-again 32 s bytes (known .size)

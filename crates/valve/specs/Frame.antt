@@ -64,18 +64,18 @@ firingCode = 6160
 abbrev pub headOf : Frame → ℕ
 headOf f = cond (f .ocpl) 32768 0 + cond (f .quiet) 16384 0 + identifier
 
--- The words of a frame: those that are summed up, the sum behind them, and zeros; and its 64 bytes.
-abbrev pub summedWords : Frame → List ℕ
-summedWords f = headOf f ∷ actWords (f .act)
+-- The words of a frame by its word 0 and its act: those that are summed up, the sum behind them, and zeros; and its 64 bytes.
+abbrev pub summedWords : ℕ → Act → List ℕ
+summedWords head act = head ∷ actWords act
 
-abbrev pub frontWords : Frame → List ℕ
-frontWords f = summedWords f ++ (checksum (summedWords f) ∷ [])
+abbrev pub frontWords : ℕ → Act → List ℕ
+frontWords head act = summedWords head act ++ (checksum (summedWords head act) ∷ [])
 
-abbrev pub frameWords : Frame → List ℕ
-frameWords f = frontWords f ++ zeros 26
+unfoldable pub bytesWith : ℕ → Act → List ℕ
+bytesWith head act = bytesOf (frontWords head act ++ zeros 26)
 
-unfoldable pub frameBytes : Frame → List ℕ
-frameBytes f = bytesOf (frameWords f)
+abbrev pub frameBytes : Frame → List ℕ
+frameBytes f = bytesWith (headOf f) (f .act)
 
 -- Do words 1 to 4 of these bytes arm, or fire with whichever code?
 abbrev pub arms : List ℕ → Bool

@@ -1,10 +1,11 @@
 // The gas valve's frame of 64 bytes, 32 words of 16 bits: reading (40 to 44) and writing (24). The valve itself is in `state`.
-ghost use Prim.Native.Nat.{_/_, _%_};
+ghost use Prim.Native.Nat.{_/_, _%_, _≤_};
 ghost use mathlib.Core.Path.{_≡_};
 ghost use mathlib.Core.Bool.{cond};
-ghost use lib.ListN.{take, drop};
+ghost use lib.ListN.{length, take, drop};
+ghost use lib.Seq.{sets};
 ghost use Rattle.words.specs.BigEndian.{written};
-ghost use Rattle.valve.specs.Frame.{wordsIn, checksum, allZero, same, actWords, framed, bytesOf, frontWords, frameBytes};
+ghost use Rattle.valve.specs.Frame.{wordsIn, checksum, allZero, same, actWords, headOf, bytesOf, frontWords, bytesWith, frameBytes, framed};
 ghost use Rattle.valve.specs.Answers.{codeOf, answerOf, readOf, wroteOf, writeCode};
 
 mod state;
@@ -218,12 +219,10 @@ fn flag(set: bool, bit: u16) -> u16
     if set { bit } else { 0 }
 }
 
-// Words 0 to 5 of a frame.
-fn front_words(f: Frame) -> [u16; 6]
-    ensures { λ r. ⌜ r ≡ frontWords f ⌝ }
+// Words 0 to 5 of a frame by its word 0 and its act.
+fn front_words(head: u16, act: Act) -> [u16; 6]
+    ensures { λ r. ⌜ r ≡ frontWords head act ⌝ }
 {
-    let head = flag(f.ocpl, OCPL) + flag(f.quiet, QUIET) + IDENTIFIER;
-    let act = f.act;
     let asked = words_of(act);
     let mut front = [head, asked[0], asked[1], asked[2], asked[3], 0];
     front[SUM] = checksum(front);
@@ -250,7 +249,24 @@ fn front_bytes(front: [u16; 6]) -> [u8; 12]
     ]
 }
 
-// A frame at the front of a room.
+// Word 0 of a frame.
+fn head_of(f: Frame) -> u16
+    ensures { λ r. ⌜ r ≡ headOf f ⌝ }
+{
+    flag(f.ocpl, OCPL) + flag(f.quiet, QUIET) + IDENTIFIER
+}
+
+// The frame with this word 0 and this act at the front of a room that has its bytes.
+fn put_frame(room: &mut [u8], head: u16, act: Act)
+    requires { ⌜ 64 ≤ length (now room) ⌝ }
+    ensures { λ _. ⌜ now (room .exit) ≡ sets (now (room .entry)) 0 (bytesWith head act) ⌝ }
+{
+    let front = front_bytes(front_words(head, act));
+    let next = words::put_at(room, 0, &front);
+    words::put_at(room, next, &[0u8; ZEROS]);
+}
+
+// A frame at the front of a room. Each act has an arm of its own, in which the compiler knows most of the words.
 pub fn write_frame(f: Frame, room: &mut [u8]) -> Writing
     ensures { λ r. ⌜ wroteOf r ≡ writeCode f (now (room .entry)) ⌝ }
     ensures { λ r. ⌜ now (room .exit) ≡ written (frameBytes f) (now (room .entry)) ⌝ }
@@ -258,8 +274,10 @@ pub fn write_frame(f: Frame, room: &mut [u8]) -> Writing
     if room.len() < SIZE {
         return Writing::NoRoom;
     }
-    let front = front_bytes(front_words(f));
-    let next = words::put_at(room, 0, &front);
-    words::put_at(room, next, &[0u8; ZEROS]);
+    let act = f.act;
+    match act {
+        Act::Arm => put_frame(room, head_of(f), Act::Arm),
+        Act::Fire(code) => put_frame(room, head_of(f), Act::Fire(code)),
+    }
     Writing::Written
 }
