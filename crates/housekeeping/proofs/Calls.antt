@@ -1,14 +1,14 @@
 -- Demand 2 for the housekeeping frame, that it can be written as well as read and comes back equal, of what the two calls answer; and that a refused
 -- writing touches nothing.
 use Prim.Native.Nat.{ℕ, _≤_}
-use mathlib.Core.Path.{_≡_, refl, sym, ap, _∙_}
+use mathlib.Core.Path.{_≡_, sym, ap, _∙_}
 use mathlib.Core.Logic.{_≢_}
 use mathlib.Core.List.{List, _++_}
-use mathlib.Core.Bool.{Bool, true, false, cond, not}
 use lib.ListN.{length, take, drop}
 use lib.Seq.{take-append-seam}
 use borrow.Author.Tests.{le-leb, not-false}
 use Rattle.words.specs.BigEndian.{hasRoom, written}
+use Rattle.words.proofs.Laws.{unwritten}
 use Rattle.words.proofs.Order.{NoneDue}
 use Rattle.words.proofs.Front.{Bytes}
 use Rattle.housekeeping.specs.declared.Housekeeping.{Housekeeping}
@@ -44,8 +44,4 @@ read-then-write s bytes h read room enough =
 -- Where `write_housekeeping` refused, the room is as it was.
 pub refused-leaves : (h : Housekeeping) (room : List ℕ) → writeCode h room ≢ 0 → written (frameBytes h) room ≡ room
 unfolding writeCode
-refused-leaves h room refused = go (hasRoom (frameBytes h) room) refused
-  where
-    go : (fits : Bool) → _≢_ {A = ℕ} (cond (not fits) 24 0) 0 → cond fits (frameBytes h ++ drop 18 room) room ≡ room
-    go true refused = absurd (refused refl)
-    go false refused = refl
+refused-leaves h room refused = unwritten (frameBytes h) room (λ fits. refused (rw fits))

@@ -1,16 +1,17 @@
 -- Demand 2 for the valve's frames, that they can be written as well as read and come back equal, of what the calls answer; and demand 1, that a refusal leaves
 -- the room, or the valve, as it was.
 use Prim.Native.Nat.{ℕ, _≤_}
-use mathlib.Core.Path.{_≡_, refl, sym, ap, _∙_}
+use mathlib.Core.Path.{_≡_, sym, ap, _∙_}
 use mathlib.Core.Logic.{_≢_}
 use mathlib.Core.List.{List, _++_}
-use mathlib.Core.Bool.{Bool, true, false, cond, not}
+use mathlib.Core.Bool.{true}
 use native.Mathlib.Omega.{arith}
 use lib.ListN.{length, take, drop}
 use lib.Seq.{take-at}
 use borrow.Author.Tests.{le-leb, ne-eqb, not-false}
 use Rattle.words.specs.BigEndian.{hasRoom, written}
 use Rattle.words.specs.Codes.{firstOf}
+use Rattle.words.proofs.Laws.{unwritten}
 use Rattle.words.proofs.Order.{NoneDue}
 use Rattle.words.proofs.Front.{Bytes}
 use Rattle.valve.specs.declared.Frame.{Frame}
@@ -44,11 +45,7 @@ module _ (f : Frame) (room : List ℕ) where
   -- Where it refused, the room is as it was.
   pub refused-writing : writeCode f room ≢ 0 → written (frameBytes f) room ≡ room
   unfolding writeCode
-  refused-writing refused = go (hasRoom (frameBytes f) room) refused
-    where
-      go : (fits : Bool) → _≢_ {A = ℕ} (cond (not fits) 24 0) 0 → cond fits (frameBytes f ++ drop (length (frameBytes f)) room) room ≡ room
-      go true refused = absurd (refused refl)
-      go false refused = refl
+  refused-writing refused = unwritten (frameBytes f) room (λ fits. refused (rw fits))
 
 -- Where `read_frame` took a frame, `write_frame` of it gives 0 in any room of at least 64 bytes: it puts the bytes there that were read, and touches no other.
 pub read-then-write : (s : List ℕ) → Bytes s → (f : Frame) → readOf s ≡ takenAs f → (room : List ℕ) → 64 ≤ length room

@@ -1,7 +1,9 @@
 -- Laws of big-endian numbers: what a reader sees past the end, of a list that goes on, and of bytes that were written.
 use Prim.Native.Nat.{ℕ, suc, _+_, _*_, _-_, _≤_, _<_}
 use mathlib.Core.Path.{_≡_, refl, sym, ap, _∙_}
+use mathlib.Core.Logic.{_≢_}
 use mathlib.Core.List.{List, [], _∷_, _++_, append-assoc, append-nil}
+use mathlib.Core.Bool.{Bool, true, false, cond}
 use native.Mathlib.Omega.{arith}
 use native.Mathlib.Nat.{add-zero}
 use native.Mathlib.Numerals.{add-one}
@@ -9,7 +11,7 @@ use lib.ListN.{length, getD, set, take, drop, length-append, length-drop, length
 use lib.Seq.{sets, sets-eq, take-suc, drop-drop, take-all, take-at, drop-at, take-length, length-take-le}
 use borrow.Author.Tests.{le-leb, lt-leb}
 use borrow.Rule.Slice.PartMut.{putMid}
-use Rattle.words.specs.BigEndian.{byteAt, halfAt, wordAt, wordBytes, bytesOf, written}
+use Rattle.words.specs.BigEndian.{byteAt, halfAt, wordAt, wordBytes, bytesOf, hasRoom, written}
 
 -- Past the end every number reads as 0.
 pub byte-past : (s : List ℕ) (i : ℕ) → length s ≤ i → byteAt s i ≡ 0
@@ -48,6 +50,13 @@ with-room bytes room h = simp (le-leb _ _ h)
 
 pub no-room : (bytes room : List ℕ) → length room < length bytes → written bytes room ≡ room
 no-room bytes room h = simp (lt-leb _ _ h)
+
+pub unwritten : (bytes room : List ℕ) → hasRoom bytes room ≢ true → written bytes room ≡ room
+unwritten bytes room none = go (hasRoom bytes room) none
+  where
+    go : (fits : Bool) → fits ≢ true → cond fits (bytes ++ drop (length bytes) room) room ≡ room
+    go true none = absurd (none refl)
+    go false none = refl
 
 -- Bytes stored one after another from a place on: more of them behind, one more, and that all of them, from the front on, are what a writer with room
 -- leaves.
