@@ -23,7 +23,7 @@ use Rattle.words.proofs.Front.{Bytes}
 use Rattle.wire.specs.declared.kinds.Kind.{Kind}
 use Rattle.wire.specs.declared.kinds.Command.{Command}
 use Rattle.wire.specs.declared.decoding.Reading.{Reading}
-use Rattle.wire.specs.Judge.{plain}
+use Rattle.wire.specs.Judge.{noStray, plain, judgeCode}
 use Rattle.wire.specs.Read.{lengthOf, answerOf, readChecks, readOf, saidParts, said}
 use Rattle.wire.specs.Write as writing
 use Rattle.wire.specs.Kind.{partsOf}
@@ -85,7 +85,7 @@ use Rattle.bench.proofs.Sound.{second-answers, status-answers, status-r
 use Rattle.bench.proofs.FreeEntries.{free-answers}
 use Rattle.bench.proofs.MacroRun.{runCommand, run-begins, run-accepted, run-accepted-bytes, begun-sound, run-begins-within}
 use Rattle.bench.proofs.MacroRun.{stays-idle, idle-hands, now-runs, now-hands, next-says, next-idle}
-use Rattle.bench.proofs.Outcomes.{sound-bytes}
+use Rattle.bench.proofs.Outcomes.{OfState, passed-told, sound-bytes}
 use Rattle.bench.proofs.Report.{Carries, RecordedIn, restAt, recordAt, eventsOf, Untouched, record-carries, record-recorded, kit-record, pupil-record}
 use Rattle.bench.proofs.Report.{kit-verdict, pupil-verdict, run-leaves, run-accepts, run-reaches, refused-leaves, shown-judged}
 use Rattle.bench.proofs.TypedReport as reports
@@ -376,9 +376,14 @@ demand-2-parameter-typed-kit b good kit text room accepted k there =
 pub demand-2-typed-codes : (b : Bench) (kit text room : List ℕ) → typedOf b kit text room .found .told .code ≡ 0
     → (k : ℕ) → k < length (rests (bytesIn text))
     → let bytes = recordAt (typedRoom b kit text room) (length (rests kit) + k) in
-    reports.OfState (byteAt bytes 1) × ((byteAt bytes 2 ≡ 0) × (wordAt bytes 8 ≡ 0))
+    OfState (byteAt bytes 1) × ((byteAt bytes 2 ≡ 0) × (wordAt bytes 8 ≡ 0))
 demand-2-typed-codes b kit text room accepted k there =
     reports.typed-codes b kit text room accepted k there
+
+-- So of any decoded command that passes 8 to 10.
+pub demand-2-passed-codes : (b : Bench) → benchSound b ≡ true → (c : Command) → judgeCode c ≡ 0
+    → OfState (carryOut b c .told .code) × (carryOut b c .told .stray ≡ noStray)
+demand-2-passed-codes b sound c passes = passed-told b c sound passes
 
 -- The bytes shown for a sender and number are the very bytes that the record judged: alone they get the same verdict and leave the same bench.
 pub shown-are-judged : (kit pupil : List ℕ) → length kit ≤ 4096 → length pupil ≤ 4096 → (b : Bench) → benchSound b ≡ true → (sender k : ℕ)

@@ -29,6 +29,7 @@ pub mod Joining
 pub mod EveningCodes
 pub mod Back
 pub mod Outcomes
+pub mod Exports
 pub mod Own
 mod Decisions
 mod Shapes

@@ -2,16 +2,16 @@
 -- pupil's records: record k + 1 of the pupil carries the number of the line that says command k + 1. Places k count from 0.
 use Prim.Native.Nat.{ℕ, zero, suc, _+_, _*_, _-_, _≤_, _<_}
 use mathlib.Core.Path.{_≡_, refl, sym, ap, _∙_}
-use mathlib.Core.Logic.{_⊎_, inl, inr, _≢_}
+use mathlib.Core.Logic.{_≢_}
 use mathlib.Core.List.{List, [], _∷_, _++_}
-use mathlib.Core.Bool.{Bool, true, false, cond, not, _||_, _&&_}
+use mathlib.Core.Bool.{Bool, true, cond, not, _||_}
 use native.Mathlib.Omega.{arith}
 use lib.ListN.{length, getD, take, drop}
-use lib.Dec.{eqb, leb, ltb}
+use lib.Dec.{eqb, ltb}
 use borrow.Author.Tests.{ltb-false, le-ltb, ne-eqb, not-false}
 use Rattle.words.specs.BigEndian.{byteAt, wordAt, written}
-use Rattle.words.specs.Codes.{Check, firstOf}
-use Rattle.words.proofs.Tests.{neither, both}
+use Rattle.words.specs.Codes.{firstOf}
+use Rattle.words.proofs.Tests.{neither}
 use Rattle.wire.specs.declared.judging.Stray.{Stray}
 use Rattle.wire.specs.declared.judging.Told.{Told}
 use Rattle.wire.specs.Judge.{noStray, toldFor}
@@ -26,11 +26,11 @@ use Rattle.text.proofs.Assembled.{AllRead, assembled-passes}
 use Rattle.store.specs.declared.roles.Role.{Role}
 use Rattle.bench.specs.declared.Bench.{Bench}
 use Rattle.bench.specs.Status.{freshBench, benchSound}
-use Rattle.bench.specs.Carry.{stateChecks, bytesChecks, taken}
+use Rattle.bench.specs.Carry.{bytesChecks, taken}
 use Rattle.bench.specs.Events.{Event, typed, after, Reached, accepts, acceptsAny}
 use Rattle.bench.specs.Run.{recordOf, kitPart, noting, runOf, roomAfter}
 use Rattle.bench.specs.Typed.{typedFindings, typedFound, typedEnd, typedReport, typedOf, typedRoom}
-use Rattle.bench.proofs.Outcomes.{behindCode, behind-told, read-then}
+use Rattle.bench.proofs.Outcomes.{behindCode, behind-told, OfState, behind-state, read-then}
 use Rattle.bench.proofs.InTurn.{typed-even, run-left, typed-left}
 use Rattle.bench.proofs.Sound.{GoodBench}
 use Rattle.bench.proofs.MacroRun.{after-append}
@@ -178,31 +178,11 @@ same-run b kit text room accepted =
         ap here (typed-left b kit text room accepted) ∙ sym (ap here (run-left b kit (bytesIn text) room code))
 
 -- Rows 1 to 10 passed when the text was judged: a typed command gets 0 or a code that asks for the state, and nothing is told of a number.
-abbrev pub stateCode : ℕ → Bool
-stateCode n = (leb 11 n && leb n 19) || eqb n 25 || eqb n 26
-
-abbrev pub OfState : ℕ → Type 0
-OfState code = (code ≡ 0) ⊎ (stateCode code ≡ true)
-
-abbrev within : List Check → Bool
-within [] = true
-within (c ∷ cs) = stateCode (c .code) && within cs
-
-first-within : (cs : List Check) → within cs ≡ true → OfState (firstOf cs)
-first-within [] all = inl refl
-first-within (c ∷ cs) all =
-    let parts = both (stateCode (c .code)) (within cs) all in
-    go (c .due) (parts .0) (first-within cs (parts .1))
-  where
-    go : (t : Bool) → stateCode (c .code) ≡ true → OfState (firstOf cs) → OfState (cond t (c .code) (firstOf cs))
-    go true own rest = inr own
-    go false own rest = rest
-
 read-told : (b : Bench) (s : List ℕ) → readCode s ≡ 0 → OfState (taken b s .told .code) × (taken b s .told .stray ≡ noStray)
 unfolding taken behindCode
 read-told b s read =
     let code : firstOf (bytesChecks b s) ≡ behindCode b (said s) = rw (read-then b s, read) in (
-      rw code (first-within (stateChecks b (said s)) refl),
+      rw code (behind-state b (said s)),
       ap (λ n. toldFor n (saidParts s) .stray) code ∙ ap (λ (t : Told). t .stray) (behind-told (saidParts s) b (said s)),
     )
 

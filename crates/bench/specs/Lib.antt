@@ -7,4 +7,5 @@ pub mod Run
 pub mod Typed
 pub mod Events
 pub mod Evenings
+pub mod Exports
 pub mod Steps

@@ -1,5 +1,6 @@
 // The bench: camera and macro store as one state that goes in by value and comes back. Every call judges the state that it is handed (27).
-// A refused command hands back the bench as it came.
+// A refused command hands back the bench as it came. What a crate above the bench has to name from below it, the bench hands on: commands as they are
+// read and judged, what is told of them, records, groups (`pub use`; for the meanings specs/Exports, for the laws proofs/Exports).
 ghost use mathlib.Core.Path.{_≡_};
 ghost use mathlib.Core.List.{[]};
 ghost use Rattle.camera.specs.Camera.{cameraSecond};
@@ -29,14 +30,22 @@ pub use lists::TypedRan;
 pub use lists::code_of;
 pub use lists::finding_of;
 use report::Latest;
+pub use report::put_record;
 use store::Denial;
-use store::Group;
+pub use store::Group;
 use store::Store;
 use store::Survey;
 use store::Tally;
-use wire::Command;
-use wire::Refusal;
-use wire::Told;
+pub use wire::Command;
+pub use wire::Judged;
+pub use wire::Kind;
+pub use wire::Reading;
+pub use wire::Refusal;
+pub use wire::Told;
+pub use wire::judge;
+pub use wire::plain;
+pub use wire::read_command;
+pub use wire::span;
 
 // The code of a picture that is asked for with the power off.
 const DARK: u8 = 26;

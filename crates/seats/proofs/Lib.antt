@@ -1,0 +1,4 @@
+-- Laws of the four seats, behind single functions.
+mod Laws
+mod Fronts
+mod States
