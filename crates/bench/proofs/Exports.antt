@@ -2,7 +2,7 @@
 pub use Rattle.words.proofs.Tests.{both, neither, fails, holds}
 pub use Rattle.words.proofs.Laws.{one-to-one}
 pub use Rattle.words.proofs.FirstOf.{Coded, first-append}
-pub use Rattle.words.proofs.Order.{NoneDue, Order, order, apart, lacks, code-lacked}
+pub use Rattle.words.proofs.Order.{NoneDue, Order, order, apart, lacks, lacks-on}
 pub use Rattle.wire.proofs.Answers.{refusal-code}
-pub use Rattle.wire.proofs.Unique.{one-refusal, refusalOf, refusal-back}
+pub use Rattle.wire.proofs.Unique.{refusalOf}
 pub use Rattle.wire.proofs.RoundTrip.{read-allowed}

@@ -70,6 +70,17 @@ bytes-apart b s = go (ruleOf (opcodeOf s))
     go (Found.Known form length) = (refl, refl)
     go Found.Unknown = (refl, refl)
 
+-- The same of the rows of reading alone, none of which is above 10.
+pub read-apart : (s : List ℕ) → (apart (readChecks s) ≡ true) × (upTo 10 (readChecks s) ≡ true)
+read-apart s = go (ruleOf (opcodeOf s))
+  where
+    all : Found → List Check
+    all found = reachChecks s ++ (4 when sumDiffers s (lengthOf s) ∷ decodeChecks found (flagOf s) (lengthOf s) (wordAt s 4) (thirdWord s (lengthOf s)))
+
+    go : (found : Found) → (apart (all found) ≡ true) × (upTo 10 (all found) ≡ true)
+    go (Found.Known form length) = (refl, refl)
+    go Found.Unknown = (refl, refl)
+
 pub command-order : (b : Bench) → benchSound b ≡ true → (c : Command) → Order (commandChecks b c) (carryOut b c .told .code)
 command-order b sound c = subst (Order (commandChecks b c)) (sym (command-code b c sound)) (order (commandChecks b c) refl)
 

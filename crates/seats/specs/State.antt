@@ -8,7 +8,7 @@ use Rattle.bench.specs.Exports.{Command, Check, _when_}
 use Rattle.bench.specs.Status.{freshBench, benchSound}
 use Rattle.seats.specs.declared.queues.Queue.{Queue}
 use Rattle.seats.specs.declared.Seats.{Seats}
-use Rattle.seats.specs.Queues.{emptyQueue, waiting, queueHolds}
+use Rattle.seats.specs.Queues.{emptyQueue, waiting, queueHolds, firstNumber}
 
 -- "from seat 0 on a fresh bench": seat 3 counts as served last.
 abbrev pub freshSeats : Seats
@@ -24,6 +24,10 @@ queueIn qs seat = getD qs seat noQueue
 -- The commands that wait for a seat.
 abbrev pub waitingAt : Seats → ℕ → List Command
 waitingAt s seat = waiting (queueIn (s .queues) seat)
+
+-- The number of a seat's oldest command.
+abbrev pub numberAt : Seats → ℕ → ℕ
+numberAt s seat = firstNumber (queueIn (s .queues) seat)
 
 abbrev pub waits : List Queue → ℕ → Bool
 waits qs seat = ltb 0 (queueIn qs seat .count)

@@ -14,8 +14,8 @@ use Rattle.seats.specs.declared.Seats.{Seats}
 use Rattle.seats.specs.declared.Passed.{Passed}
 use Rattle.seats.specs.declared.turns.Served.{Served}
 use Rattle.seats.specs.declared.turns.Turned.{Turned}
-use Rattle.seats.specs.Queues.{oldest, servedIn, firstNumber}
-use Rattle.seats.specs.State.{queueIn, seatsSound, nextOf}
+use Rattle.seats.specs.Queues.{oldest, servedIn}
+use Rattle.seats.specs.State.{queueIn, numberAt, seatsSound, nextOf}
 
 -- What a turn answers: 0 or 27, the record of the command that was carried out, if any, and the state afterwards.
 pub record TurnTold : Type 0 where
@@ -44,10 +44,6 @@ recordShown (bytes ∷ more) = bytes
 -- A turn in which no command was carried out.
 abbrev pub without : Seats → Served → Turned
 without s served = record { seats = s; served = served; bytes = recordShown [] }
-
--- The number of a seat's oldest command.
-abbrev pub numberAt : Seats → ℕ → ℕ
-numberAt s seat = firstNumber (queueIn (s .queues) seat)
 
 -- The code that its oldest command gets as it is carried out.
 abbrev pub codeAt : Seats → ℕ → ℕ
