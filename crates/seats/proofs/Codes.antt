@@ -1,4 +1,5 @@
--- The codes of queueing in their order, which of them depend on the seat and the bytes alone, and what a turn's record says.
+-- The codes of queueing in their order, which of them depend on the seat and the bytes alone, what a turn's record says, and that no state which is
+-- reached gets 27.
 use Prim.Native.Nat.{ℕ, _<_}
 use mathlib.Core.Path.{_≡_, refl, sym, ap, _∙_}
 use mathlib.Core.Logic.{_≢_}
@@ -9,18 +10,20 @@ use lib.Dec.{leb, eqb}
 use borrow.Author.Tests.{ne-eqb, leb-true, ltb-true, not-true}
 use Rattle.bench.specs.Exports.{Check, _when_, Command, noStray, plain, toldFor, saidParts, readChecks, byteAt}
 use Rattle.bench.specs.Carry.{carryOut}
-use Rattle.bench.proofs.Exports.{both, Order, order, apart, lacks, lacks-on}
+use Rattle.bench.proofs.Exports.{both, NoneDue, Order, order, apart, lacks, lacks-on}
 use Rattle.bench.proofs.Outcomes.{OfState}
 use Rattle.bench.proofs.Rows.{upTo, read-apart}
 use Rattle.bench.proofs.Report.{Carries, record-carries}
 use Rattle.bench.proofs.Demands.{demand-2-passed-codes}
 use Rattle.seats.specs.declared.Seats.{Seats}
 use Rattle.seats.specs.Queues.{oldest}
-use Rattle.seats.specs.State.{queueIn, seatsSound, numberAt, nextOf}
+use Rattle.seats.specs.State.{queueIn, seatsSound, soundCheck, numberAt, nextOf}
 use Rattle.seats.specs.Queueing.{follows, frontCode, full, queueChecks, queueCode, queueAt}
-use Rattle.seats.specs.Turn.{TurnTold, codeAt, recordAt, turnAt}
+use Rattle.seats.specs.Turn.{TurnTold, codeAt, recordAt, turnAt, secondAt, statusAt}
+use Rattle.seats.specs.Events.{Reached}
 use Rattle.seats.proofs.States.{next-waits, queue-code, turn-one}
-use Rattle.seats.proofs.Good.{GoodSeats, good-sound, oldest-passes}
+use Rattle.seats.proofs.Good.{GoodSeats, good-sound, reached-good, oldest-passes}
+use Rattle.seats.proofs.Calls.{turn-order, second-order, status-order}
 
 -- No row of reading is above 10, so a row behind them differs from all of them, and the codes of the whole list differ.
 differs : (a n : ℕ) → a ≢ n → not (eqb a n) ≡ true
@@ -127,3 +130,21 @@ turn-record s good below =
 
     whole : carryOut (s .bench) c .told ≡ plain (codeAt s n)
     whole = rw (← told .1)
+
+-- No state that is reached gets 27, from any call.
+pub record Answers (s : Seats) : Type 0 where
+  pub queue : (seat : ℕ) (bytes : List ℕ) → queueAt s seat bytes .told .code ≢ 27
+  pub turn : turnAt s .code ≡ 0
+  pub second : secondAt s .told .code ≡ 0
+  pub status : statusAt s .code ≡ 0
+
+pub reached-answers : (s : Seats) → Reached s → Answers s
+reached-answers s r =
+    let sound = good-sound s (reached-good s r) in
+    let none : NoneDue (soundCheck s ∷ []) = (rw sound, tt) in
+    record {
+      queue = queue-answers s sound;
+      turn = turn-order s .accepted .1 none;
+      second = second-order s .accepted .1 none;
+      status = status-order s .accepted .1 none;
+    }
