@@ -1,5 +1,6 @@
 //! The programs for typed lists, for lists on a card and for damaged ones: what each
-//! writes to standard output and to standard error for its whole input.
+//! writes to standard output and to standard error for its whole input; and how any program
+//! is served.
 
 use std::io::{Read, Write};
 
@@ -123,8 +124,13 @@ pub fn rescue_list(list: &[u8]) -> Streams {
     }
 }
 
+/// Is a program that answers its whole input with one text.
+pub fn serve_text(limit: usize, program: fn(&[u8]) -> String) -> std::io::Result<()> {
+    serve(limit, |input| Streams::output(program(input)))
+}
+
 /// Is such a program: reads standard input and writes both streams.
-pub fn serve(limit: usize, program: fn(&[u8]) -> Streams) -> std::io::Result<()> {
+pub fn serve(limit: usize, program: impl Fn(&[u8]) -> Streams) -> std::io::Result<()> {
     let mut input = Vec::new();
     // One byte past the limit is enough to know that the input is too long.
     let mut source = std::io::stdin().take(limit as u64 + 1);

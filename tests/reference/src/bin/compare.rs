@@ -162,8 +162,7 @@ fn replay_taker(options: &Options) -> Taker<'_> {
         expected: replay::transcript,
         line_counts: |items| {
             let mut replay = Replay::default();
-            let answers = items.iter().map(|item| replay.item(&mut Script::new(item)));
-            answers.map(lines_in).collect()
+            line_counts(items, |left| replay.item(left))
         },
     }
 }
@@ -172,12 +171,7 @@ fn lists_taker(options: &Options) -> Taker<'_> {
     Taker {
         program: &options.lists_replay,
         expected: lists_replay::transcript,
-        line_counts: |items| {
-            let answers = items
-                .iter()
-                .map(|it| lists_replay::item(&mut Script::new(it)));
-            answers.map(lines_in).collect()
-        },
+        line_counts: |items| line_counts(items, lists_replay::item),
     }
 }
 
@@ -187,15 +181,16 @@ fn valve_taker(options: &Options) -> Taker<'_> {
         expected: valve_replay::transcript,
         line_counts: |items| {
             let mut replay = ValveReplay::default();
-            let answers = items.iter().map(|item| replay.item(&mut Script::new(item)));
-            answers.map(lines_in).collect()
+            line_counts(items, |left| replay.item(left))
         },
     }
 }
 
-/// A bad item is answered with one line.
-fn lines_in(answer: Option<String>) -> usize {
-    answer.map_or(1, |text| text.lines().count())
+/// By what takes an item off a script. A bad item is answered with one line.
+fn line_counts(items: &[Item], mut take: impl FnMut(&mut Script) -> Option<String>) -> Vec<usize> {
+    let answers = items.iter().map(|item| take(&mut Script::new(item)));
+    let counts = answers.map(|answer| answer.map_or(1, |text| text.lines().count()));
+    counts.collect()
 }
 
 /// Compares the fixed scripts, then random ones until there are answers enough.
@@ -232,6 +227,18 @@ fn compare_script(
     })
 }
 
+fn compare_each(
+    taker: &Taker,
+    scripts: Vec<Vec<Item>>,
+    tally: &mut Tally,
+    sent: &mut Sent,
+) -> Result<(), Differs> {
+    for script in scripts {
+        compare_script(taker, &script, tally, sent)?;
+    }
+    Ok(())
+}
+
 /// Fixed and random lists split over evenings. Each is compared with the reference, like
 /// any script, and then the program's answers with each other.
 fn compare_evenings(options: &Options, tally: &mut Tally, sent: &mut Sent) -> Result<(), Differs> {
@@ -242,7 +249,9 @@ fn compare_evenings(options: &Options, tally: &mut Tally, sent: &mut Sent) -> Re
     for batch in batches(all, Evenings::script_bytes) {
         let items: Vec<Item> = batch.iter().flat_map(Evenings::items).collect();
         let answers = compare_script(&replay_taker(options), &items, tally, sent)?;
-        compare_plans(&options.replay, &batch, &answers)?;
+        let mut lines = answers.lines();
+        let differs = |one: &Evenings| disagreement(one, &mut lines).is_some();
+        all_agree(&batch, differs, |one| report_evenings(&options.replay, one))?;
     }
     Ok(())
 }
@@ -257,13 +266,14 @@ fn many_evenings(options: &Options) -> Vec<Evenings> {
     all.collect()
 }
 
-/// Compares the program's answers to all of these, which came in one text, with each other.
-fn compare_plans(program: &Program, all: &[Evenings], answers: &str) -> Result<(), Differs> {
-    let mut lines = answers.lines();
-    let differing = all
-        .iter()
-        .find(|one| disagreement(one, &mut lines).is_some());
-    differing.map_or(Ok(()), |one| Err(report_evenings(program, one)))
+/// Whether programs' own answers agree; the first of a batch of which they do not is reported.
+fn all_agree<T>(
+    batch: &[T],
+    mut differs: impl FnMut(&T) -> bool,
+    report: impl FnOnce(&T) -> Differs,
+) -> Result<(), Differs> {
+    let differing = batch.iter().find(|one| differs(one));
+    differing.map_or(Ok(()), |one| Err(report(one)))
 }
 
 /// Fixed items about the index of a list, then random ones.
@@ -275,10 +285,7 @@ fn compare_index_scripts(
     let mut rng = Rng::stream(options.seed, INDEX_STREAM);
     let mut scripts = fixed_index::scripts();
     scripts.extend(random_index::scripts(&mut rng, options.indexes));
-    for script in scripts {
-        compare_script(&lists_taker(options), &script, tally, sent)?;
-    }
-    Ok(())
+    compare_each(&lists_taker(options), scripts, tally, sent)
 }
 
 /// Fixed and random lists that grow. What both replay programs answer is compared with the
@@ -294,10 +301,8 @@ fn compare_growths(options: &Options, tally: &mut Tally, sent: &mut Sent) -> Res
         let items: Vec<Item> = batch.iter().flat_map(Growth::shown_items).collect();
         let replay = compare_script(&replay_taker(options), &items, tally, sent)?;
         let (mut lists, mut replay) = (lists.lines(), replay.lines());
-        let differing = batch
-            .iter()
-            .find(|one| growths::disagreement(one, &mut lists, &mut replay).is_some());
-        differing.map_or(Ok(()), |one| Err(report_growth(options, one)))?;
+        let differs = |one: &Growth| growths::disagreement(one, &mut lists, &mut replay).is_some();
+        all_agree(&batch, differs, |one| report_growth(options, one))?;
     }
     Ok(())
 }
@@ -311,10 +316,7 @@ fn compare_card_scripts(
     let mut rng = Rng::stream(options.seed, CARD_STREAM);
     let mut scripts = fixed_cards::scripts();
     scripts.extend(random_cards::scripts(&mut rng, options.cards));
-    for script in scripts {
-        compare_script(&lists_taker(options), &script, tally, sent)?;
-    }
-    Ok(())
+    compare_each(&lists_taker(options), scripts, tally, sent)
 }
 
 /// Fixed and random lists that go to a card or come off it, and come back by what the
@@ -331,10 +333,8 @@ fn compare_trips(options: &Options, tally: &mut Tally, sent: &mut Sent) -> Resul
         let out = compare_script(&taker, &items, tally, sent)?;
         let back = compare_script(&taker, &trips::backs(&batch, &out), tally, sent)?;
         let (mut out, mut back) = (out.lines(), back.lines());
-        let differing = batch
-            .iter()
-            .find(|one| trips::disagreement(one, &mut out, &mut back).is_some());
-        differing.map_or(Ok(()), |one| Err(report_trip(taker.program, one)))?;
+        let differs = |one: &Trip| trips::disagreement(one, &mut out, &mut back).is_some();
+        all_agree(&batch, differs, |one| report_trip(taker.program, one))?;
     }
     Ok(())
 }
@@ -348,10 +348,7 @@ fn compare_rescue_scripts(
     let mut rng = Rng::stream(options.seed, RESCUE_STREAM);
     let mut scripts = fixed_rescues::scripts();
     scripts.extend(random_rescues::scripts(&mut rng, options.rescues));
-    for script in scripts {
-        compare_script(&lists_taker(options), &script, tally, sent)?;
-    }
-    Ok(())
+    compare_each(&lists_taker(options), scripts, tally, sent)
 }
 
 /// Fixed and random damaged lists that are rescued and run; what the program kept of them is
@@ -371,10 +368,8 @@ fn compare_salvages(options: &Options, tally: &mut Tally, sent: &mut Sent) -> Re
         let items = salvages::runs(&batch, &kept);
         let runs = compare_script(&replay_taker(options), &items, tally, sent)?;
         let mut answers = Answers::new(&rescues, &again, &runs);
-        let differing = batch
-            .iter()
-            .find(|one| salvages::disagreement(one, &mut answers).is_some());
-        differing.map_or(Ok(()), |one| Err(report_salvage(options, one)))?;
+        let differs = |one: &Salvage| salvages::disagreement(one, &mut answers).is_some();
+        all_agree(&batch, differs, |one| report_salvage(options, one))?;
     }
     Ok(())
 }
@@ -388,10 +383,7 @@ fn compare_valve_scripts(
     let mut rng = Rng::stream(options.seed, VALVE_STREAM);
     let mut scripts = fixed_valve::scripts();
     scripts.extend(random_valve::scripts(&mut rng, options.valves));
-    for script in scripts {
-        compare_script(&valve_taker(options), &script, tally, sent)?;
-    }
-    Ok(())
+    compare_each(&valve_taker(options), scripts, tally, sent)
 }
 
 /// Fixed and random walks of a valve. Each is compared with the reference, like any script,
@@ -406,10 +398,8 @@ fn compare_walks(options: &Options, tally: &mut Tally, sent: &mut Sent) -> Resul
         let items: Vec<Item> = batch.iter().flat_map(Walk::items).collect();
         let answers = compare_script(&taker, &items, tally, sent)?;
         let mut lines = answers.lines();
-        let differing = batch
-            .iter()
-            .find(|one| walks::disagreement(one, &mut lines).is_some());
-        differing.map_or(Ok(()), |one| Err(report_walk(taker.program, one)))?;
+        let differs = |one: &Walk| walks::disagreement(one, &mut lines).is_some();
+        all_agree(&batch, differs, |one| report_walk(taker.program, one))?;
     }
     Ok(())
 }

@@ -3,7 +3,7 @@
 
 use super::fixed_housekeeping::ROOM as FRAME_ROOM;
 use super::items::{fresh, housekeeping, now, passed, run, second, status, typed, Item};
-use super::shrink::{commands, lines, shrunk};
+use super::shrink::{commands, lines, smallest};
 use crate::command::Kind;
 use crate::macros::MACROS;
 use crate::run::{rests, LONGEST_LIST};
@@ -121,10 +121,7 @@ impl Evenings {
     /// The smallest found that still differs: with less before and behind, and with fewer
     /// commands or lines in its parts.
     pub fn smallest(&self, differs: &mut dyn FnMut(&Evenings) -> bool) -> Evenings {
-        let pieces = self.pieces();
-        let mut still_differs = |fewer: &[Item]| differs(&self.of_pieces(fewer));
-        let fewest = shrunk(&pieces, pieces.len(), &mut still_differs);
-        self.of_pieces(&fewest)
+        smallest(&self.pieces(), |fewer| self.of_pieces(fewer), differs)
     }
 
     /// All that can be left out by itself, each behind a byte that says where it belongs.

@@ -27,8 +27,11 @@ pub fn scripts() -> Vec<Vec<Item>> {
     let mut scripts = packed(episodes);
     scripts.push(Vec::new());
     scripts.extend(bad_scripts());
-    scripts.push(just_long_enough());
-    scripts.push(too_long());
+    scripts.extend(
+        about_the_longest(read(0, &[0; 255]), status())
+            .into_iter()
+            .take(2),
+    );
     scripts
 }
 
@@ -90,16 +93,12 @@ fn bad_scripts() -> Vec<Vec<Item>> {
         .collect()
 }
 
-/// A script of exactly the longest length.
-fn just_long_enough() -> Vec<Item> {
-    let wide = read(0, &[0; 255]);
+/// A script of exactly the longest length, of one item again and again and another, of a byte,
+/// behind it; one with a byte more; and one that is twice as long.
+pub(super) fn about_the_longest(wide: Item, narrow: Item) -> [Vec<Item>; 3] {
     let mut items = vec![wide.clone(); LONGEST_SCRIPT / wide.len()];
-    items.resize(items.len() + LONGEST_SCRIPT % wide.len(), status());
-    items
-}
-
-fn too_long() -> Vec<Item> {
-    let mut items = just_long_enough();
-    items.push(status());
-    items
+    items.resize(items.len() + LONGEST_SCRIPT % wide.len(), narrow.clone());
+    let one_more = [&items[..], &[narrow]].concat();
+    let twice = [&items[..], &items].concat();
+    [items, one_more, twice]
 }

@@ -2,14 +2,13 @@
 //! with every set of faults at once, with other patterns, identifiers, sums and codes, on valves
 //! of every sort; rooms; the scripts that end badly; and walks through all states.
 
-use super::fixed::batches;
+use super::fixed::{about_the_longest, batches};
 use super::items::{fresh_valve, valve, valve_frame, Item};
 use super::valve_frames::{
     arming, bytes, firing, mended, summed, with, Before, Words, AT_SUM, BEFORE, FLAGS, IDENTIFIER,
     RIGHT, WORDS,
 };
 use super::walks::{Walk, ROOM};
-use crate::replay::LONGEST_SCRIPT;
 
 /// Codes about the right one: its neighbours, its bytes and its digits exchanged or read
 /// otherwise, and numbers at their ends.
@@ -62,8 +61,8 @@ pub fn scripts() -> Vec<Vec<Item>> {
     let mut scripts: Vec<Vec<Item>> = batches.into_iter().map(|it| it.concat()).collect();
     scripts.push(Vec::new());
     scripts.extend(bad_scripts());
-    scripts.push(just_long_enough());
-    scripts.extend(too_long());
+    let wide = valve(&bytes(&arming(0)));
+    scripts.extend(about_the_longest(wide, fresh_valve()));
     scripts
 }
 
@@ -307,23 +306,6 @@ fn bad_scripts() -> Vec<Vec<Item>> {
         .into_iter()
         .map(|end| [vec![good.clone(), fresh_valve()], end].concat());
     behind_good.collect()
-}
-
-/// A script of exactly the longest length.
-fn just_long_enough() -> Vec<Item> {
-    let item = valve(&bytes(&arming(0)));
-    let mut items = vec![item.clone(); LONGEST_SCRIPT / item.len()];
-    items.resize(items.len() + LONGEST_SCRIPT % item.len(), fresh_valve());
-    items
-}
-
-/// One byte more, and twice as many.
-fn too_long() -> [Vec<Item>; 2] {
-    let items = just_long_enough();
-    [
-        [&items[..], &[fresh_valve()]].concat(),
-        [&items[..], &items].concat(),
-    ]
 }
 
 /// A frame for each refusal that does not ask for the state.

@@ -7,7 +7,7 @@ use super::agreement::{Disagreement, REST_SAME};
 use super::evenings::placed;
 use super::fixed::SCRIPT_AIM;
 use super::items::{index, look_up, shown, Item};
-use super::shrink::{commands, shrunk};
+use super::shrink::{commands, smallest};
 use crate::index::{self, MOST_OFFSETS};
 use crate::run::{KIT, PUPIL};
 
@@ -97,10 +97,7 @@ impl Growth {
 
     /// The smallest found that still differs: with fewer commands and numbers.
     pub fn smallest(&self, differs: &mut dyn FnMut(&Growth) -> bool) -> Growth {
-        let pieces = self.pieces();
-        let mut still_differs = |fewer: &[Item]| differs(&Growth::of_pieces(fewer));
-        let fewest = shrunk(&pieces, pieces.len(), &mut still_differs);
-        Growth::of_pieces(&fewest)
+        smallest(&self.pieces(), Growth::of_pieces, differs)
     }
 
     /// All that can be left out by itself, each behind a byte that says where it belongs.

@@ -8,7 +8,7 @@ use std::str::Lines;
 use super::agreement::{Disagreement, REST_SAME};
 use super::growths::next;
 use super::items::{rescue, run, Item};
-use super::shrink::{bytes, shrunk};
+use super::shrink::{bytes, smallest};
 use super::trips::bytes_in;
 use crate::codes::{ACCEPTED, OUT_OF_RANGE, TOO_SHORT};
 use crate::replay::with_bytes;
@@ -86,9 +86,7 @@ impl Salvage {
         let of = |pieces: &[Item]| Salvage {
             list: pieces.concat(),
         };
-        let pieces = bytes(&self.list);
-        let mut still_differs = |fewer: &[Item]| differs(&of(fewer));
-        of(&shrunk(&pieces, pieces.len(), &mut still_differs))
+        smallest(&bytes(&self.list), of, differs)
     }
 
     /// The list without what was skipped.

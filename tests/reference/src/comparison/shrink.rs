@@ -51,6 +51,16 @@ impl Trial<'_> {
     }
 }
 
+/// The smallest found of what is made of pieces, with fewer of them, that still differs.
+pub fn smallest<T>(
+    pieces: &[Item],
+    of: impl Fn(&[Item]) -> T,
+    differs: &mut dyn FnMut(&T) -> bool,
+) -> T {
+    let mut still_differs = |fewer: &[Item]| differs(&of(fewer));
+    of(&shrunk(pieces, pieces.len(), &mut still_differs))
+}
+
 /// The smallest script found. `last` is the item that gave the first differing
 /// line: whatever follows it goes first.
 pub fn shrunk(items: &[Item], last: usize, differs: &mut dyn FnMut(&[Item]) -> bool) -> Vec<Item> {

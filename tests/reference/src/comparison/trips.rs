@@ -8,7 +8,7 @@ use std::str::Lines;
 use super::agreement::Disagreement;
 use super::growths::with_same_rest;
 use super::items::{from_card, to_card, Item};
-use super::shrink::{commands, numbers, shrunk};
+use super::shrink::{commands, numbers, smallest};
 use crate::codes::ACCEPTED;
 use crate::replay::hex;
 use crate::run::LONGEST_LIST;
@@ -111,9 +111,7 @@ impl Trip {
             form: self.form,
             list: pieces.concat(),
         };
-        let pieces = self.form.pieces(&self.list);
-        let mut still_differs = |fewer: &[Item]| differs(&of(fewer));
-        of(&shrunk(&pieces, pieces.len(), &mut still_differs))
+        smallest(&self.form.pieces(&self.list), of, differs)
     }
 }
 

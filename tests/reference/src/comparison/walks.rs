@@ -8,7 +8,7 @@ use std::str::Lines;
 use super::agreement::Disagreement;
 use super::growths::next;
 use super::items::{fresh_valve, valve_frame, Item};
-use super::shrink::shrunk;
+use super::shrink::smallest;
 use crate::replay::hex;
 
 /// Just enough for a frame.
@@ -60,8 +60,7 @@ impl Walk {
         let of = |steps: &[Item]| Walk {
             steps: steps.to_vec(),
         };
-        let mut still_differs = |fewer: &[Item]| differs(&of(fewer));
-        of(&shrunk(&self.steps, self.steps.len(), &mut still_differs))
+        smallest(&self.steps, of, differs)
     }
 }
 
