@@ -3,7 +3,7 @@
 # demands that the comparison notices it. Without arguments the mistaken
 # reference is compared with the right one; otherwise with the given programs.
 #
-# usage: mutants.sh [--replay "CMD" --list "CMD" --typed "CMD" --assemble "CMD" --lister "CMD" --cases "CMD" --lists_replay "CMD" --to_card "CMD" --from_card "CMD" --rescue_list "CMD" --valve_replay "CMD"]
+# usage: mutants.sh [--replay "CMD" --list "CMD" --typed "CMD" --assemble "CMD" --lister "CMD" --cases "CMD" --lists_replay "CMD" --to_card "CMD" --from_card "CMD" --rescue_list "CMD" --valve_replay "CMD" --seats_replay "CMD"]
 set -euo pipefail
 
 here=$(cd "$(dirname "$0")" && pwd)
@@ -11,7 +11,7 @@ work=$(mktemp -d)
 trap 'rm -rf "$work"' EXIT
 
 # The fixed scripts have about 133,000 answers, so this is some random ones more.
-amount=(--answers 151000 --lists 5 --inputs 5 --sums 50 --evenings 20 --indexes 20 --cards 20 --rescues 20 --valves 20)
+amount=(--answers 151000 --lists 5 --inputs 5 --sums 50 --evenings 20 --indexes 20 --cards 20 --rescues 20 --valves 20 --seats 20)
 
 # A mistake may well make a number overflow; that is to show as a difference
 # in the transcript, not as a reference that stops.
@@ -74,7 +74,7 @@ try_mutant() {
     fi
 }
 
-names=(replay list typed assemble lister cases lists_replay to_card from_card rescue_list valve_replay)
+names=(replay list typed assemble lister cases lists_replay to_card from_card rescue_list valve_replay seats_replay)
 declare -A commands
 for name in "${names[@]}"; do
     commands[$name]="$work/${name}_ref"
@@ -82,7 +82,7 @@ done
 while [ $# -gt 0 ]; do
     name=${1#--}
     if [ $# -lt 2 ] || [ "$name" = "$1" ] || [ -z "${commands[$name]:-}" ]; then
-        echo "usage: mutants.sh [--replay \"CMD\" --list \"CMD\" --typed \"CMD\" --assemble \"CMD\" --lister \"CMD\" --cases \"CMD\" --lists_replay \"CMD\" --to_card \"CMD\" --from_card \"CMD\" --rescue_list \"CMD\" --valve_replay \"CMD\"]" >&2
+        echo "usage: mutants.sh [--replay \"CMD\" --list \"CMD\" --typed \"CMD\" --assemble \"CMD\" --lister \"CMD\" --cases \"CMD\" --lists_replay \"CMD\" --to_card \"CMD\" --from_card \"CMD\" --rescue_list \"CMD\" --valve_replay \"CMD\" --seats_replay \"CMD\"]" >&2
         exit 2
     fi
     commands[$name]=$2

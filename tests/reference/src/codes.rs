@@ -1,7 +1,8 @@
 //! The numbered answers of the rules, in the order in which they are tried (but
-//! 25 stands behind 15, 26 between 10 and 11, and of a stored list 34 to 38 stand about
-//! 5 to 10 and before 20), the refusal that carries one of them with what was wrong with
-//! a number, and the place in a text or a list where it was found.
+//! 25 stands behind 15, 26 between 10 and 11, of a stored list 34 to 38 stand about
+//! 5 to 10 and before 20, and of a queueing 27 and 51 stand before 1, 53 before 52), the
+//! refusal that carries one of them with what was wrong with a number, and the place in a
+//! text or a list where it was found.
 
 use std::fmt;
 
@@ -32,6 +33,7 @@ pub const BAD_FIELD: u8 = 23;
 pub const TOO_LITTLE_ROOM: u8 = 24;
 pub const CLOSE_TOO_FULL: u8 = 25;
 pub const POWER_OFF: u8 = 26;
+pub const UNSOUND: u8 = 27;
 pub const UNKNOWN_NAME: u8 = 30;
 pub const MALFORMED_ARGUMENT: u8 = 31;
 pub const WRONG_NUMBER_OF_ARGUMENTS: u8 = 32;
@@ -52,6 +54,9 @@ pub const ITEM_CUT_OFF: u8 = 47;
 pub const UNEXPECTED_TAG: u8 = 48;
 pub const WRONG_ITEM_LENGTH: u8 = 49;
 pub const BYTES_LEFT_OVER: u8 = 50;
+pub const NO_SUCH_SEAT: u8 = 51;
+pub const QUEUE_FULL: u8 = 52;
+pub const BYTES_FOLLOW: u8 = 53;
 pub const BAD_OFFSETS: u8 = 54;
 
 /// Whether one of the replay programs can show the code. 27 is left out on purpose: a state
@@ -62,8 +67,7 @@ pub fn can_be_shown(code: u8) -> bool {
         ACCEPTED..=POWER_OFF
             | UNKNOWN_NAME..=BAD_FLAG
             | NOT_64_BYTES..=WRONG_FIRING_CODE
-            | ITEM_CUT_OFF..=BYTES_LEFT_OVER
-            | BAD_OFFSETS
+            | ITEM_CUT_OFF..=BAD_OFFSETS
     )
 }
 

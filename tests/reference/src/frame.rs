@@ -109,7 +109,7 @@ impl Frame {
     }
 
     /// The rules that speak of fields rather than of single bytes.
-    fn judge(&self) -> Result<(), Refusal> {
+    pub(crate) fn judge(&self) -> Result<(), Refusal> {
         let bad = |broken: bool| refuse_if(broken, BAD_FIELD);
         bad(self.image_interval < 1)?;
         bad(self.track_interval < 1)?;

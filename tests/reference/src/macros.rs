@@ -22,7 +22,7 @@ pub type Group = Vec<Command>;
 pub struct MacroStore {
     pub open: Option<usize>,
     pub closed: [bool; MACROS],
-    entries: [Vec<Command>; MACROS],
+    pub entries: [Vec<Command>; MACROS],
 }
 
 impl MacroStore {

@@ -124,7 +124,7 @@ impl Replay {
         match script.byte()? {
             SECOND => Some(second_lines(&self.bench.second())),
             COMMAND => Some(self.command(script.short_part()?)),
-            STATUS => Some(self.status()),
+            STATUS => Some(status_line(Ok(self.bench.frame()))),
             RUN => self.run(script),
             FRESH => {
                 self.bench = Bench::default();
@@ -148,14 +148,6 @@ impl Replay {
     fn command(&mut self, bytes: &[u8]) -> String {
         let (code, finding) = code_and_finding(&self.bench.carry_out_bytes(bytes));
         format!("command {code} {finding}\n")
-    }
-
-    fn status(&self) -> String {
-        let mut room = [ROOM_FILL; FRAME_BYTES];
-        match self.bench.frame().write(&mut room) {
-            Ok(_) => format!("status {}\n", hex(&room)),
-            Err(refusal) => format!("status {}\n", refusal.code),
-        }
     }
 
     fn housekeeping(&self, room: usize) -> String {
@@ -210,8 +202,17 @@ pub(crate) fn written_words(written: &Result<usize, Refusal>, room: &[u8]) -> St
     }
 }
 
+/// The frame as it is written, or why there is none.
+pub(crate) fn status_line(frame: Result<Frame, Refusal>) -> String {
+    let mut room = [ROOM_FILL; FRAME_BYTES];
+    match frame.and_then(|frame| frame.write(&mut room)) {
+        Ok(_) => format!("status {}\n", hex(&room)),
+        Err(refusal) => format!("status {}\n", refusal.code),
+    }
+}
+
 /// How many entries a second handed over, and a line to each with its code.
-fn second_lines(handed: &[Handed]) -> String {
+pub(crate) fn second_lines(handed: &[Handed]) -> String {
     let mut lines = format!("second 0 {}\n", handed.len());
     for Handed { code, command } in handed {
         lines += &format!("handed {code} {}", command.kind.row().name);

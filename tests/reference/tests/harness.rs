@@ -378,9 +378,11 @@ fn codes_are_counted_wherever_a_line_shows_one() {
     tally.add("rescued 24 0 0\nrescued 0 35 37\nskipped 35 36\n");
     tally.add("valve 46 4000\nframe 41\nframe 0 1 arm 24\nframe 0 2 arm 0 44\n");
     tally.add("frame 0 3 fire 45 40\nframe 0 2 fire 43 0 42\nvalve 0 0042\n");
+    tally.add("queued 53 0 0 0 0\nqueued 0 51 52 0 0\nturn 0 none\n");
+    tally.add("turn 0 record 030f00000000003400000000\n");
     let missing = [
-        1, 2, 3, 4, 6, 7, 8, 10, 12, 13, 14, 15, 16, 17, 18, 23, 25, 26, 32, 35, 36, 37, 42, 43,
-        44, 45, 48, 49, 50, 54,
+        1, 2, 3, 4, 6, 7, 8, 10, 12, 13, 14, 16, 17, 18, 23, 25, 26, 32, 35, 36, 37, 42, 43, 44,
+        45, 48, 49, 50, 51, 52, 54,
     ];
     // 0 did not occur beside an entry.
     assert_eq!(tally.missing(), [&[0], &missing[..]].concat());

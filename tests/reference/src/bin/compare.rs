@@ -18,6 +18,7 @@ use reference::comparison::report::{answered, item_of_line, report, report_disag
 use reference::comparison::rng::Rng;
 use reference::comparison::salvages::{self, Answers, Salvage};
 use reference::comparison::shrink::{bytes, commands, lines, numbers};
+use reference::comparison::sittings::{self, Sitting};
 use reference::comparison::tally::{grouped, Tally};
 use reference::comparison::trips::{self, Trip};
 use reference::comparison::walks::{self, Walk};
@@ -26,6 +27,7 @@ use reference::comparison::{fixed_cards, random_cards};
 use reference::comparison::{fixed_evenings, random_evenings};
 use reference::comparison::{fixed_growths, fixed_index, random_index};
 use reference::comparison::{fixed_rescues, random_rescues};
+use reference::comparison::{fixed_seats, random_seats};
 use reference::comparison::{fixed_valve, random_valve};
 use reference::list::listing;
 use reference::lists_replay;
@@ -33,14 +35,15 @@ use reference::pictures::answers;
 use reference::programs::{assembler, from_card, lister, rescue_list, to_card, typed};
 use reference::replay::{self, Replay, Script};
 use reference::run::LONGEST_LIST;
+use reference::seats_replay::{self, SeatsReplay};
 use reference::valve_replay::{self, ValveReplay};
 
 /// How much was sent and compared: scripts to the replay programs and the lines
 /// of their answers, lists to the list program, inputs to the programs for typed
 /// lists, for lists on a card and for damaged ones, and sums to the cases program; and lists
 /// split over two evenings and over three, lists that grow, lists that go to a card or come
-/// off it and come back, damaged lists that are rescued and rescued again, and walks of a
-/// valve, whose scripts and answers are among the others.
+/// off it and come back, damaged lists that are rescued and rescued again, walks of a valve,
+/// and sittings at the four-seat bench, whose scripts and answers are among the others.
 #[derive(Default)]
 struct Sent {
     scripts: u64,
@@ -54,6 +57,7 @@ struct Sent {
     trips: usize,
     salvages: usize,
     walks: usize,
+    sittings: usize,
 }
 
 impl Sent {
@@ -63,12 +67,13 @@ impl Sent {
         let [sums, pairs, triples] =
             [self.sums, self.pairs, self.triples].map(|it| grouped(it as u64));
         let [growths, trips] = [self.growths, self.trips].map(|it| grouped(it as u64));
-        let [salvages, walks] = [self.salvages, self.walks].map(|it| grouped(it as u64));
+        let [salvages, walks, sittings] =
+            [self.salvages, self.walks, self.sittings].map(|it| grouped(it as u64));
         format!(
             "{lists} lists, {inputs} inputs, {sums} sums, \
              {pairs} pairs and {triples} triples of evenings, {growths} growing lists, \
              {trips} lists there and back, {salvages} lists rescued twice, \
-             {walks} walks of a valve"
+             {walks} walks of a valve, {sittings} sittings at a bench"
         )
     }
 }
@@ -90,6 +95,7 @@ const SALVAGE_STREAM: u64 = 13 << 32;
 const RESCUE_LIST_STREAM: u64 = 14 << 32;
 const VALVE_STREAM: u64 = 15 << 32;
 const WALK_STREAM: u64 = 16 << 32;
+const SITTING_STREAM: u64 = 17 << 32;
 
 /// A program that takes scripts, and what is expected of it.
 struct Taker<'a> {
@@ -153,6 +159,7 @@ fn compare_all(options: &Options, tally: &mut Tally) -> Result<Sent, Differs> {
     compare_salvages(options, tally, &mut sent)?;
     compare_valve_scripts(options, tally, &mut sent)?;
     compare_walks(options, tally, &mut sent)?;
+    compare_sittings(options, tally, &mut sent)?;
     Ok(sent)
 }
 
@@ -181,6 +188,17 @@ fn valve_taker(options: &Options) -> Taker<'_> {
         expected: valve_replay::transcript,
         line_counts: |items| {
             let mut replay = ValveReplay::default();
+            line_counts(items, |left| replay.item(left))
+        },
+    }
+}
+
+fn seats_taker(options: &Options) -> Taker<'_> {
+    Taker {
+        program: &options.seats_replay,
+        expected: seats_replay::transcript,
+        line_counts: |items| {
+            let mut replay = SeatsReplay::default();
             line_counts(items, |left| replay.item(left))
         },
     }
@@ -404,6 +422,29 @@ fn compare_walks(options: &Options, tally: &mut Tally, sent: &mut Sent) -> Resul
     Ok(())
 }
 
+/// Fixed items of the four-seat bench; then fixed and random sittings there, and the commands
+/// that were served, sent to the other replay program. What both answer is compared with the
+/// reference, like any script, and then with each other.
+fn compare_sittings(options: &Options, tally: &mut Tally, sent: &mut Sent) -> Result<(), Differs> {
+    let taker = seats_taker(options);
+    compare_each(&taker, fixed_seats::scripts(), tally, sent)?;
+    let mut rng = Rng::stream(options.seed, SITTING_STREAM);
+    let mut all = fixed_seats::sittings();
+    all.extend((0..options.seats).map(|_| random_seats::sitting(&mut rng)));
+    sent.sittings = all.len();
+    for batch in batches(all, Sitting::script_bytes) {
+        let items: Vec<Item> = batch.iter().flat_map(Sitting::items).collect();
+        let seats = compare_script(&taker, &items, tally, sent)?;
+        let carried = sittings::carried(&batch, &seats);
+        let replay = compare_script(&replay_taker(options), &carried, tally, sent)?;
+        let (mut seats, mut replay) = (seats.lines(), replay.lines());
+        let differs =
+            |one: &Sitting| sittings::disagreement(one, &mut seats, &mut replay).is_some();
+        all_agree(&batch, differs, |one| report_sitting(options, one))?;
+    }
+    Ok(())
+}
+
 fn compare_lists(options: &Options) -> Result<usize, Differs> {
     let mut rng = Rng::stream(options.seed, LIST_STREAM);
     let mut lists = vec![
@@ -598,4 +639,26 @@ fn report_walk(program: &Program, walk: &Walk) -> Differs {
     };
     let smallest = walk.smallest(&mut |fewer| show(fewer).is_some());
     report_disagreement(&smallest.items(), show(&smallest), "about the valve")
+}
+
+/// The same for a sitting at the four-seat bench.
+fn report_sitting(options: &Options, sitting: &Sitting) -> Differs {
+    println!("answers about a sitting differ, the items for both replay programs:");
+    let both = |sitting: &Sitting| {
+        let seats = options
+            .seats_replay
+            .answer(&sitting.items().concat())
+            .ok()?;
+        let carried = sittings::carried(std::slice::from_ref(sitting), &seats);
+        Some((seats, carried))
+    };
+    let show = |sitting: &Sitting| {
+        let (seats, carried) = both(sitting)?;
+        let replay = options.replay.answer(&carried.concat()).ok()?;
+        sittings::disagreement(sitting, &mut seats.lines(), &mut replay.lines())
+    };
+    let smallest = sitting.smallest(&mut |fewer| show(fewer).is_some());
+    let mut items = smallest.items();
+    items.extend(both(&smallest).map_or(Vec::new(), |(_, carried)| carried));
+    report_disagreement(&items, show(&smallest), "about the sitting")
 }

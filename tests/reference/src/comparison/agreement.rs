@@ -144,7 +144,7 @@ fn told<'a>(
 }
 
 /// The lines that this item was answered with, as many as the first of them says.
-fn answer<'a>(item: &Item, lines: &mut Lines<'a>) -> Result<Vec<&'a str>, Disagreement> {
+pub(super) fn answer<'a>(item: &Item, lines: &mut Lines<'a>) -> Result<Vec<&'a str>, Disagreement> {
     if *item == fresh() {
         return Ok(Vec::new());
     }

@@ -60,7 +60,7 @@ pub(super) fn good(row: &Row) -> [u32; 2] {
 }
 
 /// Every argument set of a row in which one value is an edge or both are.
-fn edge_sets(row: &Row) -> Vec<[u32; 2]> {
+pub(super) fn edge_sets(row: &Row) -> Vec<[u32; 2]> {
     let mut sets = vec![good(row)];
     for (position, argument) in row.arguments.iter().enumerate() {
         for value in edges(argument) {
@@ -92,7 +92,7 @@ fn limits(row: &Row) -> [Vec<Item>; 2] {
 }
 
 /// Each L that is judged differently from its neighbours somewhere, and some.
-fn every_length() -> Vec<usize> {
+pub(super) fn every_length() -> Vec<usize> {
     let mut lengths: Vec<usize> = (0..=33).collect();
     lengths.push(LENGTH_BITS as usize);
     lengths

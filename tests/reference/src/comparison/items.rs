@@ -7,6 +7,7 @@ use crate::replay::{
     ASSEMBLE, COMMAND, DECODED, FRAME, FRESH, HOUSEKEEPING, LINE, LIST, PASSED, READ, RUN, SECOND,
     SHOWN, STATUS, TAGS, TYPED,
 };
+use crate::seats_replay::{QUEUE, TURN};
 use crate::valve_replay;
 use crate::wire::{sealed, unsealed};
 
@@ -188,6 +189,18 @@ pub fn valve_frame(room: u8, bytes: &[u8]) -> Item {
     let mut item = vec![valve_replay::READ, room];
     short_part(&mut item, bytes);
     item
+}
+
+/// An item of the replay program for the four-seat bench, as the next one: a seat queues a
+/// command. (A second, the status and a fresh bench are the same items in both programs.)
+pub fn queue(seat: u8, bytes: &[u8]) -> Item {
+    let mut item = vec![QUEUE, seat];
+    short_part(&mut item, bytes);
+    item
+}
+
+pub fn turn() -> Item {
+    vec![TURN]
 }
 
 /// A command's bytes with a right XOR, whether or not it would be taken.

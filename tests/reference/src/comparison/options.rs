@@ -5,9 +5,9 @@ use super::program::Program;
 
 pub const USAGE: &str = "usage: compare --replay \"CMD\" --list \"CMD\" \
     --typed \"CMD\" --assemble \"CMD\" --lister \"CMD\" --cases \"CMD\" --lists_replay \"CMD\" \
-    --to_card \"CMD\" --from_card \"CMD\" --rescue_list \"CMD\" --valve_replay \"CMD\" [--seed N] \
-    [--lists N] [--inputs N] [--sums N] [--evenings N] [--indexes N] [--cards N] [--rescues N] \
-    [--valves N] [--answers N]";
+    --to_card \"CMD\" --from_card \"CMD\" --rescue_list \"CMD\" --valve_replay \"CMD\" \
+    --seats_replay \"CMD\" [--seed N] [--lists N] [--inputs N] [--sums N] [--evenings N] \
+    [--indexes N] [--cards N] [--rescues N] [--valves N] [--seats N] [--answers N]";
 
 pub struct Options {
     pub replay: Program,
@@ -21,6 +21,7 @@ pub struct Options {
     pub from_card: Program,
     pub rescue_list: Program,
     pub valve_replay: Program,
+    pub seats_replay: Program,
     pub seed: u64,
     /// How many random lists are sent, besides those of 0, 4,096 and 4,097 bytes.
     pub lists: usize,
@@ -44,6 +45,8 @@ pub struct Options {
     /// How many random walks a valve takes, and how many valves take random items of any
     /// sort, besides the fixed ones.
     pub valves: usize,
+    /// How many random sittings the four-seat bench has, besides the fixed ones.
+    pub seats: usize,
     /// How many transcript lines are to be compared at least.
     pub answers: u64,
 }
@@ -57,6 +60,7 @@ const DEFAULT_INDEXES: usize = 600;
 const DEFAULT_CARDS: usize = 600;
 const DEFAULT_RESCUES: usize = 600;
 const DEFAULT_VALVES: usize = 600;
+const DEFAULT_SEATS: usize = 600;
 const DEFAULT_ANSWERS: u64 = 240_000;
 
 /// The same options while it is not yet known whether all have been given.
@@ -73,6 +77,7 @@ struct Given {
     from_card: Option<Program>,
     rescue_list: Option<Program>,
     valve_replay: Option<Program>,
+    seats_replay: Option<Program>,
     seed: Option<u64>,
     lists: Option<usize>,
     inputs: Option<usize>,
@@ -82,6 +87,7 @@ struct Given {
     cards: Option<usize>,
     rescues: Option<usize>,
     valves: Option<usize>,
+    seats: Option<usize>,
     answers: Option<u64>,
 }
 
@@ -100,6 +106,7 @@ impl Given {
             "--from_card" => self.from_card = Program::with_errors(value),
             "--rescue_list" => self.rescue_list = Program::with_errors(value),
             "--valve_replay" => self.valve_replay = Program::new(value),
+            "--seats_replay" => self.seats_replay = Program::new(value),
             "--seed" => self.seed = Some(value.parse().ok()?),
             "--lists" => self.lists = Some(value.parse().ok()?),
             "--inputs" => self.inputs = Some(value.parse().ok()?),
@@ -109,6 +116,7 @@ impl Given {
             "--cards" => self.cards = Some(value.parse().ok()?),
             "--rescues" => self.rescues = Some(value.parse().ok()?),
             "--valves" => self.valves = Some(value.parse().ok()?),
+            "--seats" => self.seats = Some(value.parse().ok()?),
             "--answers" => self.answers = Some(value.parse().ok()?),
             _ => return None,
         }
@@ -134,6 +142,7 @@ impl Options {
             from_card: given.from_card?,
             rescue_list: given.rescue_list?,
             valve_replay: given.valve_replay?,
+            seats_replay: given.seats_replay?,
             seed: given.seed.unwrap_or(DEFAULT_SEED),
             lists: given.lists.unwrap_or(DEFAULT_LISTS),
             inputs: given.inputs.unwrap_or(DEFAULT_INPUTS),
@@ -143,12 +152,13 @@ impl Options {
             cards: given.cards.unwrap_or(DEFAULT_CARDS),
             rescues: given.rescues.unwrap_or(DEFAULT_RESCUES),
             valves: given.valves.unwrap_or(DEFAULT_VALVES),
+            seats: given.seats.unwrap_or(DEFAULT_SEATS),
             answers: given.answers.unwrap_or(DEFAULT_ANSWERS),
         })
     }
 
     /// Every program that is to be started.
-    pub fn programs(&self) -> [&Program; 11] {
+    pub fn programs(&self) -> [&Program; 12] {
         [
             &self.replay,
             &self.list,
@@ -161,6 +171,7 @@ impl Options {
             &self.from_card,
             &self.rescue_list,
             &self.valve_replay,
+            &self.seats_replay,
         ]
     }
 }

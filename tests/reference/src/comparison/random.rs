@@ -225,7 +225,7 @@ impl Maker {
     }
 
     /// A command that stands a fair chance in the bench's state.
-    fn likely_command(&mut self) -> Vec<u8> {
+    pub(super) fn likely_command(&mut self) -> Vec<u8> {
         let (flag, kind, values) = self.likely(10);
         raw(flag, kind, values)
     }

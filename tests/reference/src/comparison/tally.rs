@@ -61,14 +61,14 @@ fn codes_in(line: &str) -> Vec<u8> {
     let words: Vec<&str> = line.split(' ').collect();
     let places: &[usize] = match words[0] {
         "command" | "run" | "assembled" | "listed" | "typed" | "housekeeping" | "indexed"
-        | "stored" | "raw" | "rescued" | "valve" => &[1],
+        | "stored" | "raw" | "rescued" | "valve" | "queued" | "turn" => &[1],
         "frame" => frame_places(words.get(3)),
         "read" | "decoded" | "tags" => &[1, 6],
-        "record" => return record_code(words.get(1)).into_iter().collect(),
         _ => &[],
     };
     let found = places.iter().filter_map(|place| words.get(*place));
-    found.filter_map(|word| word.parse().ok()).collect()
+    let codes = found.filter_map(|word| word.parse().ok());
+    codes.chain(record_code(&words)).collect()
 }
 
 /// Where a frame has its codes: one for the valve has its flags and its order between them.
@@ -86,9 +86,12 @@ fn handed_code(line: &str) -> Option<u8> {
     code.parse().ok()
 }
 
-/// The code is the second byte of a record.
-fn record_code(digits: Option<&&str>) -> Option<u8> {
-    u8::from_str_radix(digits?.get(2..4)?, 16).ok()
+/// The code is the second byte of a record, which is all of a line or stands behind a turn.
+fn record_code(words: &[&str]) -> Option<u8> {
+    let (["record", digits] | ["turn", _, "record", digits]) = words else {
+        return None;
+    };
+    u8::from_str_radix(digits.get(2..4)?, 16).ok()
 }
 
 /// A number with a comma before each three digits.

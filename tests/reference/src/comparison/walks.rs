@@ -130,7 +130,7 @@ impl<'a> Reading<'a> {
     }
 }
 
-fn agree(foretold: &str, found: &str) -> Result<(), Disagreement> {
+pub(super) fn agree(foretold: &str, found: &str) -> Result<(), Disagreement> {
     match foretold == found {
         true => Ok(()),
         false => Err(Disagreement::new(foretold, found)),
