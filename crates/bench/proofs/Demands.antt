@@ -6,7 +6,7 @@
 -- the crates below. How many pictures come, whether a list may be run in parts, and what is left of a damaged one, which no demand asks, is in HowMany,
 -- TwoEvenings and RescuedRun. What is no part of a bench has its share of demands 1 and 2 in its own crate: an index beside a list in `index`, Calls and
 -- Order; lists on a memory card in `card`, RoundTrips, Passes and Order; damaged lists in `rescue`, Calls and Order; the gas valve in `valve`, Calls,
--- RoundTrip and Order.
+-- RoundTrip and Order. Four seats that share a bench have theirs in `seats`, Calls and Codes; and in Shared there demand 3, from the theorem below.
 use Prim.Native.Nat.{ℕ, _+_, _*_, _-_, _≤_, _<_}
 use mathlib.Core.Path.{_≡_, refl, sym, _∙_}
 use mathlib.Core.Logic.{_↔_, _≢_}
