@@ -1,13 +1,13 @@
 // The items with one command: 01 carries it out from bytes, 09 carries out a decoded one and writes it; 07 reads one and, where it is taken,
 // writes it again.
 use super::items::State;
-use super::names;
 use bench::Verdict;
 use script::Place;
 use script::output;
 use script::rooms;
 use script::rooms::FILL;
 use wire::Command;
+use wire::Form;
 use wire::Reading;
 use wire::Writing;
 
@@ -90,9 +90,30 @@ fn decoded_line(out: &mut [u8], used: usize, command: Command, verdict: Verdict)
     output::end(out, used)
 }
 
+// The form of a row of the table of commands, from 0; the rows repeat.
+pub fn form_at(row: u8) -> Form {
+    match row % 15 {
+        0 => Form::ImgPwr,
+        1 => Form::ImgRegion,
+        2 => Form::ImgTrack,
+        3 => Form::TrkAlg,
+        4 => Form::TrkLoop,
+        5 => Form::ImgImage,
+        6 => Form::TrkGoal,
+        7 => Form::TlmFlush,
+        8 => Form::FlushAuto,
+        9 => Form::Open,
+        10 => Form::Close,
+        11 => Form::Run,
+        12 => Form::Wait,
+        13 => Form::Stop,
+        _ => Form::Clear,
+    }
+}
+
 // A decoded command of the flag's last bit, a row of the table of commands, and two arguments.
 fn decoded(flag: u8, row: u8, first: u32, second: u32) -> Command {
-    let kind = wire::kind_of(names::form_at(row), first, second);
+    let kind = wire::kind_of(form_at(row), first, second);
     Command {
         flag: flag % 2 == 1,
         kind,

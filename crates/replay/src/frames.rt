@@ -1,7 +1,5 @@
 // The items with a status frame: 02 prints the bench's own; 06 reads one and, where it is taken, writes it again.
 use super::items::State;
-use bench::Status;
-use bench::Verdict;
 use frame::Frame;
 use frame::Reading;
 use frame::Refusal;
@@ -11,28 +9,11 @@ use script::output;
 use script::rooms;
 use script::rooms::FILL;
 
-// The frame's bytes, or the code where the bench has none.
-fn status_words(out: &mut [u8], used: usize, status: Status) -> usize {
-    match status {
-        Status::Known(f) => {
-            let mut room = [FILL; frame::SIZE];
-            frame::write_frame(f, &mut room);
-            output::hex(out, used, &room)
-        }
-        Status::Unsound => {
-            let told = bench::told_of(Verdict::Unsound);
-            output::number(out, used, told.code as u64)
-        }
-    }
-}
-
 // 02: `status` and the bytes of the frame, or `status CODE`.
 pub fn status(state: State, out: &mut [u8]) -> Place {
     let bench = state.bench;
     let place = state.place;
-    let used = output::text(out, place.used, b"status");
-    let used = status_words(out, used, bench.status());
-    let used = output::end(out, used);
+    let used = answers::status(out, place.used, bench.status());
     place.answered(place.at, used)
 }
 

@@ -4,7 +4,6 @@ mod commands;
 mod frames;
 mod items;
 mod lists;
-mod names;
 mod reports;
 mod seconds;
 mod tags;

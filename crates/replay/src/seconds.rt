@@ -1,44 +1,12 @@
 // The items in which time passes: 00 a second, 08 many of them.
 use super::items::State;
-use super::names;
 use bench::Bench;
-use bench::Verdict;
 use script::output;
-use store::Group;
-use wire::Kind;
 
 // Some seconds passed: the bench afterwards, and how many entries they handed over in all.
 pub struct Waited {
     pub bench: Bench,
     pub entries: u32,
-}
-
-// An entry that was handed over: its code, and what it was, by name.
-fn handed_line(out: &mut [u8], used: usize, code: u8, kind: Kind) -> usize {
-    let used = output::text(out, used, b"handed");
-    let used = output::number(out, used, code as u64);
-    let used = names::kind(out, used, kind);
-    output::end(out, used)
-}
-
-fn handed_lines(out: &mut [u8], used: usize, group: Group, codes: &[u8; 64]) -> usize {
-    let words = group.words;
-    let size = store::group_size(group.count);
-    let mut used = used;
-    let mut i: usize = 0;
-    while i < size {
-        used = handed_line(out, used, codes[i], store::handed_at(&words, i));
-        i += 1;
-    }
-    used
-}
-
-fn second_line(out: &mut [u8], used: usize, verdict: Verdict, count: u8) -> usize {
-    let told = bench::told_of(verdict);
-    let used = output::text(out, used, b"second");
-    let used = output::number(out, used, told.code as u64);
-    let used = output::number(out, used, count as u64);
-    output::end(out, used)
 }
 
 // 00: `second CODE N`, and a line `handed CODE NAME ARGS` for each of the N entries.
@@ -49,8 +17,7 @@ pub fn second(state: State, out: &mut [u8]) -> State {
     let verdict = passed.verdict;
     let group = passed.group;
     let codes = passed.codes;
-    let used = second_line(out, place.used, verdict, group.count);
-    let used = handed_lines(out, used, group, &codes);
+    let used = answers::second(out, place.used, verdict, group, &codes);
     let bench = passed.bench;
     let place = place.answered(place.at, used);
     State { bench, place }

@@ -1,4 +1,4 @@
-// The commands by name, as the table of commands has them, in lower case; and the rows of that table by number.
+// The commands by name, as the table of commands has them, in lower case, with their arguments.
 ghost use mathlib.Core.Path.{_≡_};
 ghost use lib.ListN.{length};
 use script::output;
@@ -58,25 +58,4 @@ pub fn kind(out: &mut [u8], used: usize, kind: Kind) -> usize {
     let row = wire::row_of(form);
     let layout = row.layout;
     arguments(out, used, layout, parts.first, parts.second)
-}
-
-// The form of a row of the table, from 0; the rows repeat.
-pub fn form_at(row: u8) -> Form {
-    match row % 15 {
-        0 => Form::ImgPwr,
-        1 => Form::ImgRegion,
-        2 => Form::ImgTrack,
-        3 => Form::TrkAlg,
-        4 => Form::TrkLoop,
-        5 => Form::ImgImage,
-        6 => Form::TrkGoal,
-        7 => Form::TlmFlush,
-        8 => Form::FlushAuto,
-        9 => Form::Open,
-        10 => Form::Close,
-        11 => Form::Run,
-        12 => Form::Wait,
-        13 => Form::Stop,
-        _ => Form::Clear,
-    }
 }

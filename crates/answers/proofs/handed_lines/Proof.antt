@@ -4,8 +4,8 @@ use mathlib.Core.Path.{_≡_}
 use native.Mathlib.Omega.{arith}
 use lib.ListN.{length}
 use borrow.Author.Needs.{needs}
-use Rattle.replay.proofs.seconds.handed_lines.Statement.{statement}
-use Rattle.replay.proofs.seconds.handed_lines.Tie as tie
+use Rattle.answers.proofs.handed_lines.Statement.{statement}
+use Rattle.answers.proofs.handed_lines.Tie as tie
 
 abbrev Inv-loop : tie.InvT-loop
 Inv-loop out₀ used codes words size used₀ i₀ out used' i = (i ≤ size) × (size ≤ 64) × (length out ≡ length out₀)
