@@ -57,7 +57,7 @@ pub fn handed(group: Group, codes: &[u8; 64]) {
 }
 
 // What a second answered: the code, and what was handed over.
-fn answer(verdict: Verdict, group: Group, codes: &[u8; 64]) {
+pub fn answer(verdict: Verdict, group: Group, codes: &[u8; 64]) {
     code(verdict);
     say::text(b", ");
     handed(group, codes);

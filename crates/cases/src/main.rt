@@ -15,6 +15,8 @@ mod reading;
 mod rescues;
 mod rooms;
 mod say;
+mod seated;
+mod seating;
 mod setting;
 mod states;
 mod tags;
@@ -112,6 +114,19 @@ fn single(line: &[u8], s: &[u8]) {
     }
 }
 
+// Verbs of four seats around the bench of the lines, and else those of single commands.
+fn shared(b: Bench, line: &[u8], s: &[u8]) {
+    if lines::begins(line, b"queue ") {
+        seated::queue(b, s);
+    } else if lines::begins(line, b"turn ") {
+        seated::turn(b, s);
+    } else if lines::begins(line, b"seats ") {
+        seated::each(b, s);
+    } else {
+        single(line, s);
+    }
+}
+
 // Verbs that leave the bench of the lines as it is.
 fn looked(b: Bench, line: &[u8], s: &[u8]) {
     if lines::begins(line, b"status ") {
@@ -129,7 +144,7 @@ fn looked(b: Bench, line: &[u8], s: &[u8]) {
     } else if lines::begins(line, b"shown ") {
         lists::shown(s);
     } else {
-        single(line, s);
+        shared(b, line, s);
     }
 }
 

@@ -53,13 +53,18 @@ fn fields(f: Frame) {
     macros(f);
 }
 
-// The fields of the bench's frame, or 27, behind what parts them from the text before.
-pub fn status(parting: &[u8], b: Bench) {
-    say::text(parting);
-    match b.status() {
+// The fields of a frame that was asked for, or 27.
+pub fn told(status: Status) {
+    match status {
         Status::Known(f) => fields(f),
         Status::Unsound => say::text(b"status 27"),
     }
+}
+
+// Those of the bench's own, behind what parts them from the text before.
+pub fn status(parting: &[u8], b: Bench) {
+    say::text(parting);
+    told(b.status());
 }
 
 // The code of asking for the free entries, and how many there are where it is 0, behind this name.
