@@ -91,7 +91,7 @@ fn decoded_line(out: &mut [u8], used: usize, command: Command, verdict: Verdict)
 }
 
 // The form of a row of the table of commands, from 0; the rows repeat.
-pub fn form_at(row: u8) -> Form {
+fn form_at(row: u8) -> Form {
     match row % 15 {
         0 => Form::ImgPwr,
         1 => Form::ImgRegion,
