@@ -12,7 +12,7 @@ substr($0, 38, 12) ~ /^ *[0-9.]+$/ {
 END {
     for (i = 1; i <= lines; i++) {
         if (text[i] ~ / aim$/) hasAim = 1
-        if (text[i] ~ / (accepted|bytes)$/) hasAim = 0
+        if (text[i] ~ / (accepted|bytes|waiting)$/) hasAim = 0
         if (!(i in best)) {
             print text[i]
             continue

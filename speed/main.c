@@ -14,6 +14,8 @@ enum { INDEX = 512 /* the most offsets of an index */, PLACES = 640 /* of a room
 enum { STRETCH = 4 /* bytes of a table for one stretch */, TABLE = 2048 /* of a table, more than it needs */ };
 enum { FRAMES = 8, HOUSEKEEPING = 18, APART = 32 /* from one housekeeping frame to the next: what lies between may be left over */ };
 enum { VALVE_FRAME = 64, VALVE_WORDS = 32, SUM_WORD = 5 /* behind the words that it sums up */, VALVE_APART = 80 /* from one to the next, as above */ };
+enum { SEATS = 4, QUEUE = 32 /* the most commands that wait for one seat */, WAITING = SEATS * QUEUE };
+enum { CALLS = 16 /* in which about as many wait */ };
 
 static uint8_t commands[256], frames[256];
 
@@ -427,21 +429,22 @@ static void bare_line(struct typed *t, unsigned i)
 /* One job on both sides. */
 enum which {
     READ, WRITE, FRAME_READ, FRAME_WRITE, HOUSEKEEPING_READ, HOUSEKEEPING_WRITE, RUNS, SECONDS, ASSEMBLE, LISTING, INDEXING, LOOKING_UP, SHOWING,
-    TO_CARD, FROM_CARD, RESCUING, VALVE_READ, VALVE_WRITE, VALVE_CARRY_OUT
+    TO_CARD, FROM_CARD, RESCUING, VALVE_READ, VALVE_WRITE, VALVE_CARRY_OUT, QUEUEING, TURNS, EVENTS
 };
 
 struct job {
     const char *name;
     enum which which;
     struct list kit, pupil; /* of assembling, listing, indexing and cards: the first list and the second; of housekeeping and of the valve: the frames;
-                               of a look-up and of a rescue: the list */
+                               of a look-up and of a rescue: the list; of the seats: the events whose commands wait at first, and those of the calls */
     struct offsets old;     /* of indexing: an earlier index of the first list; of a look-up: the index */
     uint32_t each;          /* of housekeeping and of the valve: bytes of each frame, or of its room; of indexing, cards and rescues: places of the room
                                for one list */
     uint32_t table;         /* of a rescue: bytes of the table */
     uint32_t number;        /* of a look-up, and of showing: the command's */
     uint8_t sender;         /* of showing */
-    uint32_t units;         /* what one time counts for: commands of a run or of lists, seconds */
+    uint32_t units;         /* what one time counts for: commands of a run or of lists, seconds, calls of the seats */
+    bool single;            /* the table shows the time of one unit */
     double aim;
     double ours, plain; /* nanoseconds a unit, best of the rounds */
 };
@@ -520,6 +523,13 @@ static uint64_t do_job(const struct job *j, bool ours, struct room *r, uint32_t 
     case VALVE_CARRY_OUT:
         return ours ? timing_valve_carry_out(j->kit.bytes, j->kit.size, j->each, times)
                     : plain_valve_carry_out(j->kit.bytes, j->kit.size, j->each, times);
+    case QUEUEING:
+        return ours ? timing_queue(j->kit.bytes, j->kit.size, j->pupil.bytes, j->pupil.size, times)
+                    : plain_queue(j->kit.bytes, j->kit.size, j->pupil.bytes, j->pupil.size, times);
+    case TURNS:
+        return ours ? timing_turn(j->kit.bytes, j->kit.size, j->units, times) : plain_turn(j->kit.bytes, j->kit.size, j->units, times);
+    case EVENTS:
+        return ours ? timing_seats(j->pupil.bytes, j->pupil.size) : plain_seats(j->pupil.bytes, j->pupil.size);
     default: {
         uint64_t sum = translate(j->which, ours, &j->kit, room, times);
         return j->pupil.size == 0 ? sum : sum * 31 + translate(j->which, ours, &j->pupil, room + ROOM, times);
@@ -1046,17 +1056,21 @@ static void append_bytes(struct list *l, const struct list *more)
     l->size += more->size;
 }
 
+/* The next byte that looks like chance. */
+static uint8_t chance(uint32_t *state)
+{
+    *state ^= *state << 13;
+    *state ^= *state >> 17;
+    *state ^= *state << 5;
+    return (uint8_t)(*state >> 8);
+}
+
 /* Bytes that look like chance, each time the same. */
 static struct list noise(size_t size)
 {
     struct list l = { .size = size };
     uint32_t state = 0x2545f491;
-    for (size_t i = 0; i < size; i++) {
-        state ^= state << 13;
-        state ^= state >> 17;
-        state ^= state << 5;
-        l.bytes[i] = (uint8_t)(state >> 8);
-    }
+    for (size_t i = 0; i < size; i++) l.bytes[i] = chance(&state);
     return l;
 }
 
@@ -1272,6 +1286,347 @@ static void compare_valves(void)
     compare_orders();
 }
 
+static uint8_t *append_event(struct list *l, unsigned what, unsigned seat)
+{
+    uint8_t *event = l->bytes + l->size;
+    if (l->size + EVENT > ROOM) {
+        fprintf(stderr, "there are too many events\n");
+        exit(1);
+    }
+    memset(event, 0, EVENT);
+    event[0] = (uint8_t)what;
+    event[SEAT_AT] = (uint8_t)seat;
+    l->size += EVENT;
+    return event;
+}
+
+/* These bytes are queued for a seat. */
+static void append_queueing(struct list *l, unsigned seat, const struct list *bytes)
+{
+    uint8_t *event = append_event(l, QUEUE_EVENT, seat);
+    if (bytes->size > EVENT - BYTES_AT) {
+        fprintf(stderr, "there are too many bytes to queue\n");
+        exit(1);
+    }
+    event[SIZE_AT] = (uint8_t)bytes->size;
+    memcpy(event + BYTES_AT, bytes->bytes, bytes->size);
+}
+
+static void append_turns(struct list *l, unsigned n)
+{
+    for (unsigned i = 0; i < n; i++) append_event(l, TURN_EVENT, 0);
+}
+
+/* A command is queued for a seat, and a turn is taken. */
+static void append_offer(struct list *l, unsigned seat, unsigned opcode, bool flag, unsigned n, uint32_t one)
+{
+    struct list command = { .size = 0 };
+    append(&command, opcode, flag, n, one, 0);
+    append_queueing(l, seat, &command);
+    append_turns(l, 1);
+}
+
+/* A queue is given this count, and the number of commands that it has queued so far. */
+static uint8_t *append_queue_change(struct list *l, unsigned seat, unsigned count, uint32_t queued)
+{
+    uint8_t *event = append_event(l, QUEUE_CHANGE, seat);
+    event[SIZE_AT] = (uint8_t)count;
+    event[PLACE_AT] = QUEUE; /* which it has not: its commands stay */
+    put32(event + QUEUED_AT, queued);
+    return event;
+}
+
+/* The same with a command in one of its places. */
+static void append_command_change(struct list *l, unsigned seat, unsigned count, unsigned place, const struct form *f, bool flag, const uint32_t *words)
+{
+    uint8_t *event = append_queue_change(l, seat, count, count);
+    event[PLACE_AT] = (uint8_t)place;
+    put16(event + OPCODE_AT, f->opcode);
+    event[FLAG_AT] = flag;
+    put32(event + FIRST_AT, words[0]);
+    put32(event + SECOND_AT, words[1]);
+}
+
+static void append_bench_change(struct list *l, unsigned last, unsigned x, bool closed)
+{
+    uint8_t *event = append_event(l, BENCH_CHANGE, last);
+    put16(event + X_AT, x);
+    event[CLOSED_AT] = closed;
+}
+
+/* Commands for the seats in turn, as many as can wait, all accepted: for seats 0 and 2 plain ones, and for seats 1 and 3 those that fill macros. */
+static struct list seat_events(void)
+{
+    struct list l = { .size = 0 };
+    for (unsigned i = 0; i < WAITING; i++) {
+        struct list command = { .size = 0 };
+        if (i % 2 == 0) plain_command(&command, i / 2);
+        else macro_command(&command, i / 2);
+        append_queueing(&l, i % SEATS, &command);
+    }
+    return l;
+}
+
+/* So many calls of the seats, from a state in which the first so many of the commands wait. Queued are the commands behind these. */
+static struct job seats_job(const char *name, enum which which, unsigned waiting, unsigned calls)
+{
+    struct job j = { .name = name, .which = which, .kit = seat_events(), .units = calls, .single = true, .aim = 3 };
+    if (which == QUEUEING) {
+        j.pupil.size = EVENT * calls;
+        memcpy(j.pupil.bytes, j.kit.bytes + EVENT * waiting, j.pupil.size);
+    }
+    j.kit.size = EVENT * waiting;
+    return j;
+}
+
+/* Both sides make the same of these events, and leave the same state behind each. */
+static void compare_events(const char *name, const struct list *events)
+{
+    static struct job j;
+    j = (struct job){ .name = name, .which = EVENTS, .pupil = *events };
+    compare(&j);
+}
+
+/* Bytes that are refused with this code, of 1 to 10, and for 0 a command that passes. */
+static struct list coded_bytes(unsigned code)
+{
+    struct list l = { .size = 0 };
+    switch (code) {
+    case 2: append(&l, 0x015a, false, 2, 0, 0); l.bytes[3] = 1; break;
+    case 3: append(&l, 0x015a, false, 2, 0, 0); l.bytes[3] = 3; break;
+    case 4: append(&l, 0x015a, false, 2, 0, 0); l.bytes[7] ^= 1; break;
+    case 5: append(&l, 0x015b, false, 2, 0, 0); break;
+    case 6: append(&l, 0x015a, false, 3, 0, 0); break;
+    case 7: append(&l, 0x0114, false, 3, 1, 0); break;
+    case 8: append(&l, 0x0150, false, 3, 5u << 16, 0); break;
+    case 9: append(&l, 0x7f05, true, 2, 0, 0); break;
+    case 10: append(&l, 0x7f04, false, 3, 1u << 16, 0); break;
+    default: append(&l, 0x015a, false, 2, 0, 0); break;
+    }
+    if (code == 1) l.size--;
+    return l;
+}
+
+/* Queueing for every seat and for others, with queues that are empty or full, each code of 0 to 10, alone, with a byte more and with a command more. */
+static void compare_codes(bool full)
+{
+    static const unsigned seats[] = { 0, 1, 2, 3, 4, 5, 255 };
+    struct list flush = coded_bytes(0), events = { .size = 0 };
+    for (unsigned i = 0; full && i < WAITING; i++) append_queueing(&events, i % SEATS, &flush);
+    for (unsigned i = 0; i < sizeof seats / sizeof seats[0]; i++) {
+        for (unsigned code = 0; code <= 10; code++) {
+            struct list l = coded_bytes(code);
+            append_queueing(&events, seats[i], &l);
+            append_byte(&l, 1);
+            append_queueing(&events, seats[i], &l);
+            l = coded_bytes(code);
+            append_bytes(&l, &flush);
+            append_queueing(&events, seats[i], &l);
+        }
+    }
+    append_turns(&events, WAITING + 1);
+    compare_events(full ? "queueing for seats that are full" : "queueing for any seat", &events);
+}
+
+/* A command of each form is cut off everywhere, has a byte more, and has each byte changed to several others; a turn after each. */
+static void compare_changed_queueings(void)
+{
+    static const uint8_t others[] = { 0, 1, 2, 3, 4, 33, 0x7f, 0x80, 0x81, 0xff };
+    static const uint32_t one[] = { 1, 1 };
+    for (unsigned i = 0; i < sizeof forms / sizeof forms[0]; i++) {
+        struct list l = { .size = 0 }, events = { .size = 0 };
+        append_raw(&l, &forms[i], forms[i].flags == ALWAYS, one);
+        size_t size = l.size;
+        for (l.size = 0; l.size <= size + 1; l.size++) {
+            append_queueing(&events, i % SEATS, &l);
+            append_turns(&events, 1);
+        }
+        l.size = size;
+        for (size_t at = 0; at < size; at++) {
+            for (unsigned k = 0; k < sizeof others; k++) {
+                struct list changed = l;
+                changed.bytes[at] = others[k];
+                append_queueing(&events, (i + k) % SEATS, &changed);
+                append_turns(&events, 1);
+            }
+        }
+        compare_events("queueing of changed commands", &events);
+    }
+}
+
+/* Each form with any arguments and flags, queued and carried out; and put into a queue by force, where it waits behind others or stands behind all that
+   wait. */
+static void compare_any_commands(void)
+{
+    for (unsigned i = 0; i < sizeof forms / sizeof forms[0]; i++) {
+        const struct form *f = &forms[i];
+        struct list queued = { .size = 0 };
+        for (unsigned choice = 0; choice < 128; choice++) {
+            uint32_t words[2];
+            bool flag = choice >= 64;
+            for (unsigned k = 0; k < 2; k++) {
+                uint32_t least = f->limits[k].least, most = f->layout == SINGLES ? 0x447fffff : f->limits[k].most;
+                const uint32_t below = f->layout == SINGLES ? 0x80000001 : least - 1; /* and the only not-a-number is that of both sides */
+                const uint32_t values[] = { least, most, most + 1, below, 0x80000000, 0x7fc00000, 256, 65536 };
+                words[k] = values[choice >> 3 * k & 7];
+            }
+            struct list l = { .size = 0 };
+            append_raw(&l, f, flag, words);
+            append_queueing(&queued, choice % SEATS, &l);
+            append_turns(&queued, 1);
+            for (unsigned count = 1; count <= 3; count++) {
+                struct list forced = { .size = 0 };
+                append_command_change(&forced, choice % SEATS, count, choice % 3, f, flag, words);
+                append_queueing(&forced, choice / 2 % SEATS, &l);
+                append_turns(&forced, count + 1);
+                compare_events("any command in a queue", &forced);
+            }
+        }
+        compare_events("queueing of any command", &queued);
+    }
+}
+
+/* Turns from every last seat with every set of waiting seats, until none waits. */
+static void compare_turns(void)
+{
+    struct list flush = coded_bytes(0);
+    for (unsigned last = 0; last < SEATS; last++) {
+        for (unsigned set = 0; set < 1u << SEATS; set++) {
+            struct list events = { .size = 0 };
+            append_bench_change(&events, last, 0, false);
+            for (unsigned seat = 0; seat < SEATS; seat++) {
+                for (unsigned i = 0; (set >> seat & 1) && i <= (seat + set) % 3; i++) append_queueing(&events, seat, &flush);
+            }
+            append_turns(&events, 3 * SEATS + 1);
+            compare_events("turns with any seats waiting", &events);
+        }
+    }
+}
+
+/* Two calls that ask for what the state is, and two more. */
+static void append_calls(struct list *l)
+{
+    struct list flush = coded_bytes(0);
+    for (unsigned i = 0; i < 2; i++) {
+        append_queueing(l, i, &flush);
+        append_turns(l, 1);
+        append_queueing(l, 255, &flush);
+    }
+}
+
+/* States that are sound or not by one clause each: the last seat, a queue's count, a waiting command in each place, and of the bench the camera's X and a
+   closed macro without entries. */
+static void compare_unsound(void)
+{
+    static const unsigned lasts[] = { 0, 3, 4, 5, 255 }, counts[] = { 0, 1, 31, 32, 33, 34, 255 }, xs[] = { 0, 1023, 1024, 65535 };
+    static const uint32_t two[] = { 2, 0 };
+    for (unsigned i = 0; i < sizeof lasts / sizeof lasts[0]; i++) {
+        for (unsigned k = 0; k < sizeof xs / sizeof xs[0]; k++) {
+            for (unsigned closed = 0; closed < 2; closed++) {
+                struct list events = { .size = 0 };
+                append_bench_change(&events, lasts[i], xs[k], closed == 1);
+                append_calls(&events);
+                append_bench_change(&events, 0, 1, false);
+                append_calls(&events);
+                compare_events("a last seat or a bench that may not be", &events);
+            }
+        }
+    }
+    for (unsigned seat = 0; seat < SEATS; seat++) {
+        for (unsigned i = 0; i < sizeof counts / sizeof counts[0]; i++) {
+            struct list events = { .size = 0 };
+            append_queue_change(&events, seat, counts[i], counts[i]);
+            append_calls(&events);
+            compare_events("any count of a queue", &events);
+        }
+        for (unsigned place = 0; place < QUEUE; place++) {
+            struct list events = { .size = 0 };
+            append_command_change(&events, seat, place, place, &forms[0], false, two);
+            append_calls(&events);
+            append_command_change(&events, seat, QUEUE, place, &forms[0], false, two);
+            append_calls(&events);
+            compare_events("a waiting command that may not be", &events);
+        }
+    }
+}
+
+/* Numbers near 2^32, and fewer queued so far than wait. */
+static void compare_seat_numbers(void)
+{
+    static const uint32_t numbers[] = { 0, 1, 5, 0x7fffffff, 0xfffffffd, 0xfffffffe, 0xffffffff };
+    struct list flush = coded_bytes(0);
+    for (unsigned i = 0; i < sizeof numbers / sizeof numbers[0]; i++) {
+        for (unsigned count = 0; count <= QUEUE; count += 8) {
+            struct list events = { .size = 0 };
+            append_queue_change(&events, i % SEATS, count, numbers[i]);
+            for (unsigned k = 0; k < 4; k++) append_queueing(&events, i % SEATS, &flush);
+            append_turns(&events, QUEUE + 4);
+            compare_events("numbers of a seat", &events);
+        }
+    }
+}
+
+/* Commands that get 11 to 15, 17 to 19, 25 and 26, and those between them that make them so, in turn from three seats: two of them write the macros. */
+static void compare_denials(void)
+{
+    static const struct { unsigned opcode, n; bool flag; uint32_t one; } commands[] = {
+        { 0x0150, 3, false, 5u << 16 | 1 }, { 0x0118, 3, false, 5u << 16 | 1 }, { 0x0118, 3, false, 1 }, { 0x015a, 2, true, 0 }, { 0x7f02, 2, false, 0 },
+        { 0x7f01, 3, false, 1u << 24 }, { 0x7f01, 3, false, 2u << 24 }, { 0x7f02, 2, false, 0 }, { 0x7f03, 3, true, 1u << 24 }, { 0x7f03, 3, true, 0 },
+        { 0x015a, 2, true, 0 }, { 0x7f04, 3, true, 600u << 16 }, { 0x7f02, 2, false, 0 }, { 0x7f01, 3, false, 1u << 24 }, { 0x7f03, 3, false, 0 },
+        { 0x7f03, 3, false, 1u << 24 }, { 0x7f03, 3, false, 1u << 24 }, { 0x7f06, 2, false, 0 }, { 0x7f05, 2, false, 0 }, { 0x7f01, 3, false, 4u << 24 },
+        { 0x7f04, 3, true, 600u << 16 }, { 0x015a, 2, true, 0 }, { 0x7f02, 2, false, 0 }, { 0x7f06, 2, false, 0 }, { 0x0114, 3, false, 1u << 24 },
+        { 0x0150, 3, false, 5u << 16 | 1 },
+    };
+    struct list events = { .size = 0 };
+    for (unsigned i = 0; i < sizeof commands / sizeof commands[0]; i++) {
+        append_offer(&events, i % 3, commands[i].opcode, commands[i].flag, commands[i].n, commands[i].one);
+    }
+    append_offer(&events, 0, 0x7f01, false, 3, 0);
+    for (unsigned i = 0; i < 65; i++) append_offer(&events, i % SEATS, 0x015a, true, 2, 0);
+    append_offer(&events, 1, 0x7f02, false, 2, 0);
+    compare_events("commands that a turn refuses", &events);
+    events.size = 0;
+    append_offer(&events, 0, 0x7f01, false, 3, 0);
+    for (unsigned i = 0; i <= 192; i++) append_offer(&events, i % SEATS, 0x015a, true, 2, 0);
+    compare_events("more entries than there are", &events);
+}
+
+/* Events as they come: turns, and commands of any form with any arguments for any seat, some of them broken. */
+static void compare_chances(void)
+{
+    uint32_t state = 0x9e3779b9;
+    for (unsigned i = 0; i < 64; i++) {
+        struct list events = { .size = 0 };
+        while (events.size + EVENT <= ROOM) {
+            const struct form *f = &forms[chance(&state) % 15];
+            const uint32_t words[] = { f->layout == SINGLES ? goal_bits(chance(&state)) : chance(&state) % 4, chance(&state) % 8 };
+            struct list l = { .size = 0 };
+            append_raw(&l, f, f->flags == ALWAYS || (f->flags == EITHER && chance(&state) % 2), words);
+            if (chance(&state) % 16 == 0) l.bytes[chance(&state) % l.size] ^= (uint8_t)(1u << chance(&state) % 8);
+            if (chance(&state) % 64 < 20 + i % 32) append_turns(&events, 1);
+            else append_queueing(&events, chance(&state) % 64 == 0 ? 4 : chance(&state) % SEATS, &l);
+        }
+        compare_events("seats by chance", &events);
+    }
+}
+
+/* What no timed job of the seats has; and both timed ones with the whole state behind every call. */
+static void compare_seats(void)
+{
+    struct list events = seat_events();
+    append_turns(&events, WAITING + 1);
+    compare_events("queues that are filled and emptied", &events);
+    compare_codes(false);
+    compare_codes(true);
+    compare_changed_queueings();
+    compare_any_commands();
+    compare_turns();
+    compare_unsound();
+    compare_seat_numbers();
+    compare_denials();
+    compare_chances();
+}
+
 /* How many records of a run have code 0. */
 static unsigned accepted(const struct job *j)
 {
@@ -1281,6 +1636,12 @@ static unsigned accepted(const struct job *j)
     do_job(j, false, &room, 1);
     for (unsigned i = 0; i < j->units; i++) n += room.bytes[RECORD * i + 1] == 0;
     return n;
+}
+
+/* How many commands wait before the first of the calls. */
+static unsigned waiting(const struct job *j)
+{
+    return (unsigned)(j->kit.size / EVENT);
 }
 
 /* How many bytes are assembled or listed. */
@@ -1294,7 +1655,8 @@ static void print_jobs(struct job *jobs, int n)
     printf("%-36s %12s %12s %8s %6s\n", "job", "Rattle ns", "C ns", "ratio", "aim");
     for (struct job *j = jobs; j < jobs + n; j++) {
         measure(j);
-        printf("%-36s %12.1f %12.1f %8.2f %6.1f%s\n", j->name, j->ours * j->units, j->plain * j->units, j->ours / j->plain, j->aim,
+        uint32_t shown = j->single ? 1 : j->units;
+        printf("%-36s %12.1f %12.1f %8.2f %6.1f%s\n", j->name, j->ours * shown, j->plain * shown, j->ours / j->plain, j->aim,
                j->ours / j->plain <= j->aim ? "" : "  missed");
     }
 }
@@ -1311,7 +1673,7 @@ static void print_growth(struct job *jobs, int n, const char *of, const char *he
     }
 }
 
-enum { ALL = 32, SIZES = 3 };
+enum { ALL = 34, SIZES = 3 };
 
 /* The lists of two listing jobs are indexed, the latter also from its first 511 commands; and one command of the latter is looked up, and shown by the
    walk. */
@@ -1376,12 +1738,14 @@ static void make_jobs(struct job *jobs)
     rescue_jobs(jobs + 25);
     jobs[30] = frames_job("reading a valve's frame", VALVE_READ, &valves, VALVE_FRAME);
     jobs[31] = frames_job("writing a valve's frame", VALVE_WRITE, &valves, VALVE_FRAME);
+    jobs[32] = seats_job("a queueing", QUEUEING, 0, WAITING);
+    jobs[33] = seats_job("a turn", TURNS, WAITING, WAITING);
 }
 
 int main(int argc, char **argv)
 {
     static const unsigned sizes[SIZES] = { 8, 64, 512 };
-    static struct job jobs[ALL], runs[2 * SIZES], lines[4 * SIZES];
+    static struct job jobs[ALL], runs[2 * SIZES], lines[4 * SIZES], calls[2 * SIZES];
     const char *note = argc > 1 ? argv[1] : "";
     make_commands();
     make_frames();
@@ -1395,15 +1759,19 @@ int main(int argc, char **argv)
     compare_cards();
     compare_rescues();
     compare_valves();
+    compare_seats();
     for (int i = 0; i < SIZES; i++) {
         runs[i] = run_job("plain commands", plain_command, sizes[i]);
         runs[SIZES + i] = run_job("macro commands", macro_command, sizes[i]);
         typed_jobs(&lines[i], &lines[SIZES + i], &mixed, sizes[i]);
         typed_jobs(&lines[2 * SIZES + i], &lines[3 * SIZES + i], &bare, sizes[i]);
+        calls[i] = seats_job("queueings", QUEUEING, (WAITING - CALLS) / 2 * (unsigned)i, CALLS);
+        calls[SIZES + i] = seats_job("turns", TURNS, (WAITING - CALLS) / 2 * (unsigned)i + CALLS, CALLS);
     }
     printf("Rattle against plain C (gcc -O2), both x86-64, same inputs, same results; best of %d rounds.%s%s\n\n", ROUNDS, *note ? " " : "", note);
     print_jobs(jobs, ALL);
     print_growth(runs, 2 * SIZES, "growth: one command of a run of", "accepted", accepted);
     print_growth(lines, 4 * SIZES, "growth: one line of", "bytes", taken);
+    print_growth(calls, 2 * SIZES, "growth: one of", "waiting", waiting);
     return 0;
 }

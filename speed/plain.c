@@ -3,8 +3,8 @@
    the macros share one pool of entries by those of request Q-9, a second hands over a group of them by those of request Q-2, no picture is asked for
    with the power off by those of request Q-3, a number out of range is told with its limits by those of request Q-6, the numbers of the latest run
    are kept, and sent as housekeeping, by those of request Q-11, a command is looked up through an index by those of request Q-14, a list is moved to
-   a memory card and back by those of request Q-4, and a damaged list is rescued by those of request Q-10. The gas valve, a bench of its own, goes by
-   those of request Q-7. */
+   a memory card and back by those of request Q-4, a damaged list is rescued by those of request Q-10, and four seats share the bench by those of
+   request Q-13. The gas valve, a bench of its own, goes by those of request Q-7. */
 #include "plain.h"
 #include <stdbool.h>
 #include <string.h>
@@ -16,6 +16,7 @@ enum { RECEIVED_AT = 0, FAILED_AT = 6, CODE_AT = 12, FREE_AT = 15, HOUSEKEEPING 
 enum { VALVE_FRAME = 64 /* bytes */, VALVE_WORDS = 32, OCPL = 0x8000, QUIET = 0x4000, IDENTIFIER = 0x000e /* below these two flags */ };
 enum { YES = 0xffff, MASK = 0x0001, FIRING_CODE = 0x1810, ARMED = 0x4000, FIRED = 0x8000 /* bits of the valve's status */ };
 enum { KIT = 1, PUPIL = 2, INDEX = 512 /* the most offsets of an index */ };
+enum { SEATS = 4, WAITING = 32 /* the most commands of a queue */ };
 enum { TEXT = 32768, DIGITS = 5, LISTED = 8192 /* above the 7,846 bytes that a list's text has at most */ };
 enum { LONGEST_COMMAND = 4 * 32 /* bytes */ };
 enum { STRETCH = 4 /* bytes of a table for one stretch */, STRETCHES = 456 /* at most: between two of them lies a command of 8 bytes or more */ };
@@ -59,6 +60,19 @@ struct bench {
     uint8_t counts[MACROS];    /* 0 for a macro that is neither open nor closed */
     bool closed[MACROS];
     struct latest latest;      /* of the latest run that was not refused */
+};
+
+/* The queue of one seat. */
+struct queue {
+    struct command commands[WAITING]; /* those that wait, the oldest first */
+    uint8_t count;
+    uint32_t queued; /* how many the seat has queued so far, modulo 2^32 */
+};
+
+struct seats {
+    struct bench bench;
+    struct queue queues[SEATS];
+    uint8_t last; /* the seat that was served last */
 };
 
 struct frame {
@@ -688,8 +702,9 @@ static bool dark(const struct bench *b, const struct command *c)
     return !b->power && (c->kind == IMG_IMAGE || c->kind == IMG_TRACK) && c->first > 0;
 }
 
-/* Codes 26, 11 to 15, 25, 16 to 19. */
-static uint8_t denied(const struct bench *b, const struct command *c)
+/* Codes 26, 11 to 15, 25, 16 to 19. Put in place in runs and in turns, as the next two are: called, a run of 512 plain commands takes a sixth longer. */
+__attribute__((always_inline))
+static inline uint8_t denied(const struct bench *b, const struct command *c)
 {
     if (!c->flag && dark(b, c)) return 26;
     if ((c->flag || c->kind == CLOSE) && b->opened == NONE) return 11;
@@ -710,7 +725,8 @@ static uint8_t denied(const struct bench *b, const struct command *c)
 }
 
 /* The open macro's next entry; those of the macros behind it make room. */
-static void append(struct bench *b, const struct command *c)
+__attribute__((always_inline))
+static inline void append(struct bench *b, const struct command *c)
 {
     unsigned at = entries_below(b, b->opened + 1u);
     memmove(b->pool + at + 1, b->pool + at, (b->used - at) * sizeof b->pool[0]);
@@ -719,16 +735,23 @@ static void append(struct bench *b, const struct command *c)
     b->used++;
 }
 
+/* A command that passed 1 to 10, on a sound bench. */
+__attribute__((always_inline))
+static inline uint8_t take_decoded(struct bench *b, const struct command *c)
+{
+    uint8_t code = denied(b, c);
+    if (code != 0) return code;
+    if (c->flag) append(b, c);
+    else execute(b, c);
+    return 0;
+}
+
 /* The command at the front of these bytes, on a sound bench. */
 static uint8_t take(struct bench *b, const uint8_t *s, size_t size, size_t *reach, struct stray *stray)
 {
     struct command c;
     uint8_t code = read_command(s, size, &c, reach, stray);
-    if (code == 0) code = denied(b, &c);
-    if (code != 0) return code;
-    if (c.flag) append(b, &c);
-    else execute(b, &c);
-    return 0;
+    return code == 0 ? take_decoded(b, &c) : code;
 }
 
 static uint32_t run_list(struct bench *b, const uint8_t *list, size_t size, uint8_t sender, uint8_t *room)
@@ -809,6 +832,82 @@ static uint8_t second(struct bench *b, struct group *handed)
         handed->codes[i] = dark(b, c) ? 26 : 0;
         if (handed->codes[i] == 0) execute(b, c);
     }
+    return 0;
+}
+
+static void fresh_seats(struct seats *s)
+{
+    memset(s, 0, sizeof *s);
+    fresh(&s->bench);
+    s->last = SEATS - 1;
+}
+
+/* At most 32 commands wait, each of which passes 8 to 10. */
+static bool queue_sound(const struct queue *q)
+{
+    if (q->count > WAITING) return false;
+    for (const struct command *c = q->commands; c < q->commands + q->count; c++) {
+        struct stray stray;
+        if (judge(c, &stray) != 0) return false;
+    }
+    return true;
+}
+
+/* 27: may this state of the seats and their bench be? */
+static bool seats_sound(const struct seats *s)
+{
+    struct span spans[MACROS];
+    if (s->last >= SEATS) return false;
+    for (unsigned seat = 0; seat < SEATS; seat++) {
+        if (!queue_sound(&s->queues[seat])) return false;
+    }
+    return sound(&s->bench, spans);
+}
+
+/* 27, 51, 1 to 10, 53, 52. */
+static uint8_t queue(struct seats *s, uint8_t seat, const uint8_t *bytes, size_t size, struct stray *stray)
+{
+    if (!seats_sound(s)) return 27;
+    if (seat >= SEATS) return 51;
+    struct command c;
+    size_t reach;
+    uint8_t code = read_command(bytes, size, &c, &reach, stray);
+    if (code != 0) return code;
+    if (reach < size) return 53;
+    struct queue *q = &s->queues[seat];
+    if (q->count == WAITING) return 52;
+    q->commands[q->count++] = c;
+    q->queued++;
+    return 0;
+}
+
+/* The next waiting seat after the last served; SEATS where none waits. */
+static unsigned next_waiting(const struct seats *s)
+{
+    for (unsigned i = 1; i <= SEATS; i++) {
+        unsigned seat = (s->last + i) % SEATS;
+        if (s->queues[seat].count > 0) return seat;
+    }
+    return SEATS;
+}
+
+/* 27, else the oldest command of the next waiting seat is carried out, and *record tells of it; *served says whether there was one. */
+static uint8_t turn(struct seats *s, uint8_t *record, bool *served)
+{
+    *served = false;
+    if (!seats_sound(s)) return 27;
+    unsigned seat = next_waiting(s);
+    if (seat == SEATS) return 0;
+    struct queue *q = &s->queues[seat];
+    record[0] = (uint8_t)seat;
+    record[1] = take_decoded(&s->bench, &q->commands[0]);
+    record[2] = record[3] = 0;
+    put32(record + 4, q->queued - q->count + 1);
+    put32(record + 8, 0);
+    q->count--;
+    memmove(q->commands, q->commands + 1, q->count * sizeof q->commands[0]);
+    s->last = (uint8_t)seat;
+    *served = true;
     return 0;
 }
 
@@ -1654,6 +1753,155 @@ uint64_t plain_rescue(const uint8_t *list, size_t size, uint8_t *room, size_t fi
     for (uint32_t i = 0; i < times; i++) {
         struct rescued r = rescue(list, size, room, fits, table, places);
         sum = mixed(mixed(mixed(sum, r.code), r.kept), r.stretches);
+    }
+    return sum;
+}
+
+/* How many wait, how many were queued so far, and each that waits: by its opcode too, as some kinds have no arguments. */
+static uint64_t with_queue(uint64_t sum, const struct queue *q)
+{
+    sum = mixed(mixed(sum, q->count), q->queued);
+    for (unsigned i = 0; i < q->count && i < WAITING; i++) sum = mixed(with_command(sum, &q->commands[i]), opcode_of(q->commands[i].kind));
+    return sum;
+}
+
+static uint64_t with_seats(uint64_t sum, const struct seats *s)
+{
+    sum = mixed(sum, s->last);
+    for (unsigned seat = 0; seat < SEATS; seat++) sum = with_queue(sum, &s->queues[seat]);
+    return with_bench(sum, &s->bench);
+}
+
+static uint64_t with_turn(uint64_t sum, uint8_t code, bool served, const uint8_t *record)
+{
+    sum = mixed(mixed(sum, code), served);
+    if (!served) return sum;
+    for (unsigned i = 0; i < RECORD; i++) sum = mixed(sum, record[i]);
+    return sum;
+}
+
+/* Four seats on a fresh bench, for which the commands of these events wait, in turn each seat's. */
+static void seats_with(struct seats *s, const uint8_t *events, size_t size)
+{
+    fresh_seats(s);
+    for (size_t i = 0; i < size / EVENT && i < SEATS * WAITING; i++) {
+        struct queue *q = &s->queues[i % SEATS];
+        struct command *c = &q->commands[q->count];
+        struct stray stray;
+        size_t reach;
+        if (read_command(events + EVENT * i + BYTES_AT, EVENT - BYTES_AT, c, &reach, &stray) != 0) *c = (struct command){ .kind = TLM_FLUSH };
+        q->count++;
+        q->queued++;
+    }
+}
+
+uint64_t plain_queue(const uint8_t *waiting, size_t waits, const uint8_t *events, size_t size, uint32_t times)
+{
+    struct seats start, s;
+    uint64_t sum = 0;
+    seats_with(&start, waiting, waits);
+    s = start;
+    for (uint32_t i = 0; i < times; i++) {
+        s = start;
+        for (size_t at = 0; at + EVENT <= size; at += EVENT) {
+            struct stray stray = { 0 };
+            uint8_t code = queue(&s, events[at + SEAT_AT], events + at + BYTES_AT, events[at + SIZE_AT], &stray);
+            sum = with_code(sum, code, &stray);
+        }
+    }
+    return with_seats(sum, &s);
+}
+
+uint64_t plain_turn(const uint8_t *waiting, size_t waits, uint32_t turns, uint32_t times)
+{
+    struct seats start, s;
+    uint64_t sum = 0;
+    seats_with(&start, waiting, waits);
+    s = start;
+    for (uint32_t i = 0; i < times; i++) {
+        s = start;
+        for (uint32_t t = 0; t < turns; t++) {
+            uint8_t record[RECORD];
+            bool served;
+            uint8_t code = turn(&s, record, &served);
+            sum = with_turn(sum, code, served, record);
+        }
+    }
+    return with_seats(sum, &s);
+}
+
+/* A command of the kind with this opcode, which nothing has judged; a flush where there is none. */
+static struct command unjudged(uint16_t opcode, bool flag, uint32_t first, uint32_t second)
+{
+    unsigned words;
+    int kind = kind_of(opcode, &words);
+    struct command c = { .flag = flag, .kind = (uint8_t)(kind < 0 ? TLM_FLUSH : kind) };
+    switch (kind) {
+    case IMG_PWR: case TRK_ALG: case TRK_LOOP: case FLUSH_AUTO: case OPEN: case RUN:
+        c.mode = (uint8_t)first;
+        break;
+    case WAIT:
+        c.seconds = (uint16_t)first;
+        break;
+    case IMG_REGION: case IMG_TRACK: case IMG_IMAGE:
+        c.first = (uint16_t)first;
+        c.second = (uint16_t)second;
+        break;
+    case TRK_GOAL:
+        c.x = single(first);
+        c.y = single(second);
+        break;
+    }
+    return c;
+}
+
+static void change_queue(struct queue *q, const uint8_t *event)
+{
+    uint8_t place = event[PLACE_AT];
+    if (place < WAITING) {
+        q->commands[place] = unjudged(get16(event + OPCODE_AT), event[FLAG_AT] == 1, get32(event + FIRST_AT), get32(event + SECOND_AT));
+    }
+    q->count = event[SIZE_AT];
+    q->queued = get32(event + QUEUED_AT);
+}
+
+static void change_bench(struct bench *b, const uint8_t *event)
+{
+    b->x = get16(event + X_AT);
+    b->closed[0] = event[CLOSED_AT] == 1;
+}
+
+/* One event: a queueing, a turn, or a change of the state itself, as no call makes it. */
+static uint64_t happened(struct seats *s, uint64_t sum, const uint8_t *event)
+{
+    struct stray stray = { 0 };
+    uint8_t record[RECORD], code;
+    bool served;
+    switch (event[0]) {
+    case QUEUE_EVENT:
+        code = queue(s, event[SEAT_AT], event + BYTES_AT, event[SIZE_AT], &stray);
+        return with_code(sum, code, &stray);
+    case TURN_EVENT:
+        code = turn(s, record, &served);
+        return with_turn(sum, code, served, record);
+    case QUEUE_CHANGE:
+        change_queue(&s->queues[event[SEAT_AT] % SEATS], event);
+        return sum;
+    default:
+        change_bench(&s->bench, event);
+        s->last = event[SEAT_AT];
+        return sum;
+    }
+}
+
+uint64_t plain_seats(const uint8_t *events, size_t size)
+{
+    struct seats s;
+    uint64_t sum = 0;
+    fresh_seats(&s);
+    for (size_t at = 0; at + EVENT <= size; at += EVENT) {
+        sum = happened(&s, sum, events + at);
+        sum = with_seats(sum, &s);
     }
     return sum;
 }

@@ -29,11 +29,11 @@ const APART: usize = 32;
 const VALVE_APART: usize = 80;
 
 // A number that depends on every number folded in so far.
-fn mixed(sum: u64, value: u64) -> u64 {
+pub fn mixed(sum: u64, value: u64) -> u64 {
     std::num::wrapping_add_u64(sum ^ (sum / 8), value)
 }
 
-fn with_command(sum: u64, command: Command) -> u64 {
+pub fn with_command(sum: u64, command: Command) -> u64 {
     let kind = command.kind;
     let parts = wire::parts_of(kind);
     let first = mixed(sum, parts.first as u64);
@@ -46,7 +46,7 @@ fn with_command(sum: u64, command: Command) -> u64 {
 }
 
 // A code, and what was wrong with the number.
-fn with_told(sum: u64, told: Told) -> u64 {
+pub fn with_told(sum: u64, told: Told) -> u64 {
     let stray = told.stray;
     let code = mixed(mixed(sum, told.code as u64), stray.par as u64);
     let value = mixed(code, stray.value as u64);
@@ -144,7 +144,7 @@ pub extern "C" fn timing_read(bytes: &[u8], times: u32) -> u64 {
 }
 
 // The command at the front; a flush where there is none.
-fn command_of(bytes: &[u8]) -> Command {
+pub fn command_of(bytes: &[u8]) -> Command {
     match wire::read_command(bytes) {
         wire::Reading::Taken(command) => command,
         wire::Reading::Refused(_) => Command {
@@ -534,7 +534,7 @@ fn with_housekept(sum: u64, bench: Bench) -> u64 {
 }
 
 // The fields of a bench's status, and the numbers of its housekeeping, which are those of the latest run and the free entries.
-fn with_bench(sum: u64, bench: Bench) -> u64 {
+pub fn with_bench(sum: u64, bench: Bench) -> u64 {
     with_housekept(with_status(sum, bench), bench)
 }
 
@@ -668,7 +668,7 @@ pub extern "C" fn timing_index(list: &[u8], old: &[u16], room: &mut [u16], times
     with_offsets(sum, room)
 }
 
-fn with_byte(sum: u64, byte: u8) -> u64 {
+pub fn with_byte(sum: u64, byte: u8) -> u64 {
     mixed(sum, byte as u64)
 }
 

@@ -1,0 +1,1 @@
+-- The measured jobs promise no more than that they are safe and end.
