@@ -8,7 +8,7 @@
 #include <time.h>
 
 enum { ROUNDS = 40, LEAST = 2000000 /* ns of one round of one side */, LIST = 4096, RECORD = 12, ROOM = 1024 * RECORD, ROOMS = 2 * ROOM };
-enum { UNTOUCHED = 0xa5 /* what a room is filled with beforehand */ };
+enum { UNTOUCHED = 0xa5 /* what a room is filled with beforehand */, PAGE = 4096 };
 enum { MIXED = 366 /* mixed commands that take 4,096 bytes */ };
 enum { INDEX = 512 /* the most offsets of an index */, PLACES = 640 /* of a room for one, more than it needs */, ASKED = 400 /* the number looked up */ };
 enum { STRETCH = 4 /* bytes of a table for one stretch */, TABLE = 2048 /* of a table, more than it needs */ };
@@ -31,9 +31,10 @@ struct offsets {
     size_t count;
 };
 
-/* What one side leaves its bytes and offsets in, with room for those of two lists, and the stretches of one. */
+/* What one side leaves its bytes and offsets in, with room for those of two lists, and the stretches of one. It begins with a page wherever the linker puts
+   it: where a frame was written across two pages, that side took half as long again. */
 struct room {
-    uint8_t bytes[ROOMS];
+    _Alignas(PAGE) uint8_t bytes[ROOMS];
     uint16_t offsets[2 * PLACES];
     uint8_t table[TABLE];
 };
