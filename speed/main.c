@@ -1536,7 +1536,7 @@ static void compare_unsound(void)
     for (unsigned seat = 0; seat < SEATS; seat++) {
         for (unsigned i = 0; i < sizeof counts / sizeof counts[0]; i++) {
             struct list events = { .size = 0 };
-            append_queue_change(&events, seat, counts[i], counts[i]);
+            append_queue_change(&events, seat, counts[i], 0);
             append_calls(&events);
             compare_events("any count of a queue", &events);
         }
