@@ -1,11 +1,11 @@
 -- Laws behind the functions on the four seats.
-use Prim.Native.Nat.{ℕ, _+_, _%_, _≤_, _<_}
+use Prim.Native.Nat.{ℕ, zero, suc, _+_, _%_, _≤_, _<_}
 use mathlib.Core.Path.{_≡_, refl, sym, ap, _∙_}
 use mathlib.Core.List.{List, [], _∷_, _++_}
 use mathlib.Core.Bool.{Bool, true, false, cond}
 use native.Mathlib.Omega.{arith}
 use lib.Dec.{ltb, eqb}
-use borrow.Author.Tests.{lt-ltb, le-ltb, ltb-true}
+use borrow.Author.Tests.{lt-ltb, le-ltb, ltb-true, eqb-true, eqb-false}
 use Rattle.bench.specs.Exports.{Check, _when_, Command, plain, Answer, said, readChecks, groupOf}
 use Rattle.bench.specs.declared.Bench.{Bench}
 use Rattle.bench.specs.declared.Passed as benched
@@ -24,11 +24,34 @@ use Rattle.seats.specs.declared.queueing.Entry.{Entry}
 use Rattle.seats.specs.declared.queueing.Front.{Front}
 use Rattle.seats.specs.declared.turns.Served.{Served}
 use Rattle.seats.specs.declared.turns.Turned.{Turned}
-use Rattle.seats.specs.State.{waits, queuesHold, rulesHold, seatsSound, nextAfter, nextOf}
+use Rattle.seats.specs.State.{waits, holdsAt, queuesHold, rulesHold, seatsSound, nextAfter, nextOf}
 use Rattle.seats.specs.Queueing.{follows, frontChecks, frontCode, frontOf, frontAt, entryTold, QueueTold, full, roomFor, queueCode, queueAt}
 use Rattle.seats.specs.Turn.{TurnTold, turnedOf, recordShown, without, servedAt, stays, turnAt}
 use Rattle.seats.specs.Turn.{PassedTold, passedOf, passedAs, passedNot, secondAt, statusAt}
 use Rattle.seats.proofs.Fronts.{front-zero}
+
+-- The queues of the first seats hold, one seat after another.
+abbrev pub HoldTo : List Queue → ℕ → Type 0
+HoldTo qs n = (v : ℕ) → v < n → holdsAt qs v ≡ true
+
+pub hold-on : (qs : List Queue) (n : ℕ) → HoldTo qs n → holdsAt qs n ≡ true → HoldTo qs (n + 1)
+hold-on qs n before here v h = go (eqb v n) refl
+  where
+    go : (b : Bool) → eqb v n ≡ b → holdsAt qs v ≡ true
+    go true is = rw (eqb-true v n is) here
+    go false is = before v (omega (arith, eqb-false v n is))
+
+pub hold-all : (qs : List Queue) (n : ℕ) → 4 ≤ n → HoldTo qs n → true ≡ queuesHold qs
+hold-all qs n all before =
+    rw (before 0 (omega arith), before 1 (omega arith), before 2 (omega arith)) (sym (before 3 (omega arith)))
+
+pub one-fails : (qs : List Queue) (n : ℕ) → n < 4 → HoldTo qs n → holdsAt qs n ≡ false → false ≡ queuesHold qs
+one-fails qs zero h before here = rw here
+one-fails qs (suc zero) h before here = rw (before 0 (omega arith), here)
+one-fails qs (suc (suc zero)) h before here = rw (before 0 (omega arith), before 1 (omega arith), here)
+one-fails qs (suc (suc (suc zero))) h before here =
+    rw (before 0 (omega arith), before 1 (omega arith), before 2 (omega arith)) (sym here)
+one-fails qs (suc (suc (suc (suc n)))) h before here = absurd (omega arith)
 
 -- Soundness by its parts.
 pub bad-last : (s : Seats) → 4 ≤ s .last → false ≡ rulesHold s

@@ -47,20 +47,15 @@ pub struct Passed {
 fn queues_hold(queues: [Queue; 4]) -> bool
     ensures { λ r. ⌜ r ≡ queuesHold queues ⌝ }
 {
-    let queue = queues[0];
-    if !queue.holds() {
-        return false;
+    let mut seat: usize = 0;
+    while seat < SEATS as usize {
+        let queue = queues[seat];
+        if !queue.holds() {
+            return false;
+        }
+        seat += 1;
     }
-    let queue = queues[1];
-    if !queue.holds() {
-        return false;
-    }
-    let queue = queues[2];
-    if !queue.holds() {
-        return false;
-    }
-    let queue = queues[3];
-    queue.holds()
+    true
 }
 
 // A second that seats do not pass, for their state is not sound.

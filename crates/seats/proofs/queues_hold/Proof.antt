@@ -1,76 +1,68 @@
--- `queues_hold` meets its contract: one queue after another.
+-- `queues_hold` meets its contract: the queues of the seats before this one hold.
+use Prim.Native.Nat.{_-_}
+use native.Mathlib.Omega.{arith}
 use borrow.Author.Needs.{needs}
 use Rattle.bench.proofs.Exports.{fails, holds}
+use Rattle.seats.proofs.States.{HoldTo, hold-on, hold-all, one-fails}
 use Rattle.seats.proofs.queues_hold.Statement.{statement}
 use Rattle.seats.proofs.queues_hold.Tie as tie
 
-array-copy-out-queue : tie.Need-array-copy-out-queue
+abbrev Inv-loop : tie.InvT-loop
+Inv-loop queues seat₀ seat = HoldTo queues seat
+
+abbrev μ-loop : tie.MeasureT-loop
+μ-loop queues seat₀ seat = 4 - seat
+
+loop-holds : tie.Need-loop-holds Inv-loop μ-loop
+loop-holds c = λ v h. absurd (omega arith)
+
+cast-loop : tie.Need-cast-loop Inv-loop μ-loop
+cast-loop c = search needs
+
+mul-queue : tie.Need-mul-queue Inv-loop μ-loop
+mul-queue c = search needs
+
+array-copy-out-queue : tie.Need-array-copy-out-queue Inv-loop μ-loop
 array-copy-out-queue c = search needs
 
-holds-requires : tie.Need-holds-requires
+holds-requires : tie.Need-holds-requires Inv-loop μ-loop
 holds-requires c κs = search needs
 
-returns : tie.Need-returns
-returns c = rw (fails (c .before .holds .ensures) (c .if1 .taken))
+returns : tie.Need-returns Inv-loop μ-loop
+returns c =
+    let at = c .before .before .before .before in
+    let qs = at .before .args .t1 in
+    one-fails qs (at .loop .seat) (c .before .before .before .loop-test .taken) (at .loop .inv) (fails (c .before .holds .ensures) (c .if1 .taken))
 
-array-copy-out-queue-2 : tie.Need-array-copy-out-queue-2
-array-copy-out-queue-2 c = search needs
+add-seat : tie.Need-add-seat Inv-loop μ-loop
+add-seat c = search needs
 
-holds-requires-2 : tie.Need-holds-requires-2
-holds-requires-2 c κs = search needs
+loop-less : tie.Need-loop-less Inv-loop μ-loop
+loop-less c = search needs
 
-returns-2 : tie.Need-returns-2
+loop-again : tie.Need-loop-again Inv-loop μ-loop
+loop-again c =
+    let at = c .before .before .before .before in
+    let qs = at .before .args .t1 in
+    hold-on qs (at .loop .seat) (at .loop .inv) (holds (c .before .holds .ensures) (c .if1 .left))
+
+returns-2 : tie.Need-returns-2 Inv-loop μ-loop
 returns-2 c =
-    let first = c .before .before .before in
-    rw (holds (first .before .holds .ensures) (first .if1 .left), fails (c .before .holds2 .ensures) (c .if2 .taken))
-
-array-copy-out-queue-3 : tie.Need-array-copy-out-queue-3
-array-copy-out-queue-3 c = search needs
-
-holds-requires-3 : tie.Need-holds-requires-3
-holds-requires-3 c κs = search needs
-
-returns-3 : tie.Need-returns-3
-returns-3 c =
-    let second = c .before .before .before in
-    let first = second .before .before .before in
-    rw (
-      holds (first .before .holds .ensures) (first .if1 .left),
-      holds (second .before .holds2 .ensures) (second .if2 .left),
-      fails (c .before .holds3 .ensures) (c .if3 .taken),
-    )
-
-array-copy-out-queue-4 : tie.Need-array-copy-out-queue-4
-array-copy-out-queue-4 c = search needs
-
-holds-requires-4 : tie.Need-holds-requires-4
-holds-requires-4 c κs = search needs
-
-returns-4 : tie.Need-returns-4
-returns-4 c =
-    let third = c .before .before in
-    let second = third .before .before .before in
-    let first = second .before .before .before in
-    rw (
-      holds (first .before .holds .ensures) (first .if1 .left),
-      holds (second .before .holds2 .ensures) (second .if2 .left),
-      holds (third .before .holds3 .ensures) (third .if3 .left),
-    )
-    (c .holds4 .ensures)
+    hold-all (c .before .before .args .t1) (c .before .loop .seat) (c .loop-test .left) (c .before .loop .inv)
 
 pub queues-hold-spec : {M : Type 1} → statement M
 queues-hold-spec =
     tie.close
     (tie.spec
+    Inv-loop
+    μ-loop
+    loop-holds
+    cast-loop
+    mul-queue
     array-copy-out-queue
     holds-requires
     returns
-    array-copy-out-queue-2
-    holds-requires-2
-    returns-2
-    array-copy-out-queue-3
-    holds-requires-3
-    returns-3
-    array-copy-out-queue-4
-    holds-requires-4
-    returns-4)
+    add-seat
+    loop-less
+    loop-again
+    returns-2)
