@@ -1,6 +1,7 @@
 -- Laws of the bench, in two groups: what a reader wants to know (`Demands` is the file to open first; `Cases` has 01's starred examples, `Dark` what
 -- is said of the power, `FreeEntries` of the free macro entries, `HowMany` of the pictures that come, `TwoEvenings` of lists that are run in parts,
--- `RescuedRun` of what is left of damaged lists, `Report`, `TypedReport` and `LineShown` what a moderator asks of the records), and the laws behind those and behind single functions.
+-- `RescuedRun` of what is left of damaged lists, `Report`, `TypedReport` and `LineShown` what a moderator asks of the records), and the laws behind those and behind single functions;
+-- `Exports` hands on laws from below that a crate above rests on.
 pub mod Demands
 pub mod Cases
 pub mod Dark
