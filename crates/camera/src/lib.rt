@@ -1,5 +1,7 @@
 // The camera's fields and its two series of images: what an executed command sets, which one asks for pictures in the dark, what a second does, and
 // how many pictures a series takes. Macro commands are not the camera's: executing one leaves it as it is.
+#![tactic(auto)]
+
 ghost use Rattle.std.specs.Prelude.{◌≡◌, not, ◌&&◌, nat_lt};
 ghost use Rattle.camera.specs.Series.{fresh_series, started_of, time_after, second_of, next_holds};
 ghost use Rattle.camera.specs.Camera.{fresh_camera, with_series, with_region, with_goal, with_modes, with_flushes, executed_of, camera_second, dark};
@@ -8,7 +10,7 @@ ghost use Rattle.camera.specs.Pictures.{counted_seconds, rounded_up, pictures_of
 use wire::Kind;
 
 // A series of images: the seconds that it still runs, the interval, the seconds to the next image, the images so far.
-#[derive(Drop)]
+#[derive(Clone, Copy)]
 pub struct Series {
     pub time: u16,
     pub interval: u16,
@@ -96,7 +98,7 @@ impl Series {
 }
 
 // The fields that executed commands set.
-#[derive(Drop)]
+#[derive(Clone, Copy)]
 pub struct Camera {
     pub image: Series,
     pub track: Series,

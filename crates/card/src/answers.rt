@@ -6,7 +6,7 @@ ghost use Rattle.card.specs.Steps.{no_room};
 use wire::{Refusal, Told};
 
 // Why a list is not moved. What `wire` refuses is a command's, or too little room.
-#[derive(Drop)]
+#[derive(Clone, Copy)]
 pub enum Fault {
     Wire(Refusal),
     TooLong,
@@ -18,7 +18,7 @@ pub enum Fault {
 }
 
 // Done: how many bytes; or why not, and the number of the command at which that was found, 0 where it belongs to none.
-#[derive(Drop)]
+#[derive(Clone, Copy)]
 pub enum Moved {
     Done(usize),
     Refused(u32, Fault),

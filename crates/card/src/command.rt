@@ -17,7 +17,7 @@ enum Arguments {
 }
 
 // A command and the place behind it.
-#[derive(Drop)]
+#[derive(Clone, Copy)]
 pub enum Stored {
     Taken(wire::Command, usize),
     Bad(Fault),

@@ -1,4 +1,6 @@
 // Lists on a memory card: the stored form of a list, without pads and sums, and the raw list back from it.
+#![tactic(auto)]
+
 mod answers;
 mod command;
 mod number;

@@ -6,7 +6,7 @@ ghost use Rattle.card.specs.Steps.{got_number, longer_as, closed_as};
 use super::answers::Fault;
 
 // A number and the place behind it, or what is wrong with it.
-#[derive(Drop)]
+#[derive(Clone, Copy)]
 pub enum Number {
     Taken(u32, usize),
     Bad(Fault),

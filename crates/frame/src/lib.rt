@@ -1,4 +1,6 @@
 // The status frame of 32 bytes: its fields, the rules on them, reading (22, then 23) and writing (23, then 24).
+#![tactic(auto)]
+
 ghost use Rattle.std.specs.Prelude.{◌+◌, ◌*◌, ◌≤◌, ◌≡◌, eqb};
 ghost use Rattle.wire.specs.Table.{row_of};
 ghost use Rattle.wire.specs.Judge.{first_bad};
@@ -10,7 +12,7 @@ ghost use Rattle.frame.specs.Answers.{code_of, answer_of, read_of, wrote_of, wri
 use wire::Form;
 
 // A series of images as the frame has it: the seconds that it still runs, the interval, the images so far.
-#[derive(Drop)]
+#[derive(Clone, Copy)]
 pub struct Pace {
     pub time: u16,
     pub interval: u16,
@@ -18,7 +20,7 @@ pub struct Pace {
 }
 
 // The fields of a frame. The number of ones in the marks is no field: the writer counts it.
-#[derive(Drop)]
+#[derive(Clone, Copy)]
 pub struct Frame {
     pub image: Pace,
     pub track: Pace,
@@ -37,20 +39,20 @@ pub struct Frame {
     pub closed: u8,
 }
 
-#[derive(Drop)]
+#[derive(Clone, Copy)]
 pub enum Refusal {
     WrongSize,
     RuleBroken,
     NoRoom,
 }
 
-#[derive(Drop)]
+#[derive(Clone, Copy)]
 pub enum Reading {
     Taken(Frame),
     Refused(Refusal),
 }
 
-#[derive(Drop)]
+#[derive(Clone, Copy)]
 pub enum Writing {
     Written,
     Refused(Refusal),

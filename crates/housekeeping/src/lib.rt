@@ -1,4 +1,6 @@
 // The housekeeping frame of 18 bytes: four numbers, each behind a tag and a length; reading (47 to 50) and writing (24).
+#![tactic(auto)]
+
 ghost use Rattle.std.specs.Prelude.{◌≡◌, ◌++◌};
 ghost use Rattle.words.specs.BigEndian.{written};
 ghost use Rattle.words.specs.Codes.{first_of};
@@ -7,7 +9,7 @@ ghost use Rattle.housekeeping.specs.Answers.{code_of, answer_of, item_checks, it
 ghost use Rattle.housekeeping.specs.Steps.{judged_code};
 
 // The numbers of a frame: the last received number, the last failed one and its code, and the free slots.
-#[derive(Drop)]
+#[derive(Clone, Copy)]
 pub struct Housekeeping {
     pub received: u32,
     pub failed: u32,
@@ -15,7 +17,7 @@ pub struct Housekeeping {
     pub free: u8,
 }
 
-#[derive(Drop)]
+#[derive(Clone, Copy)]
 pub enum Refusal {
     CutOff,
     WrongTag,
@@ -23,13 +25,13 @@ pub enum Refusal {
     LeftOver,
 }
 
-#[derive(Drop)]
+#[derive(Clone, Copy)]
 pub enum Reading {
     Taken(Housekeeping),
     Refused(Refusal),
 }
 
-#[derive(Drop)]
+#[derive(Clone, Copy)]
 pub enum Writing {
     Written,
     NoRoom,

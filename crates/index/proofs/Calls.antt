@@ -1,6 +1,6 @@
 -- `build` as a caller meets it: when it is taken, what a refusal leaves, what stands in the room, and that an index which is kept up as its list grows
 -- stays the index of its list.
-use Prim.Native.Nat.{ℕ, ◌+◌, ◌≤◌}
+use Prim.Native.Nat.{ℕ, ◌≤◌}
 use mathlib.Core.Path.{◌≡◌, refl, ap, ◌∙◌}
 use mathlib.Core.Logic.{◌↔◌, ◌≢◌}
 use mathlib.Core.List.{List, [], ◌∷◌, ◌++◌}

@@ -1,5 +1,7 @@
 // An index beside a list: where each command's bytes begin. It is built anew, or extended from an earlier one when its list has grown (20, 54, 24); a
 // command is looked up through it without a walk.
+#![tactic(auto)]
+
 ghost use Rattle.std.specs.Prelude.{◌+◌, ◌-◌, ◌≤◌, ◌≡◌, length};
 ghost use Rattle.std.proofs.lemmas.List.Edits.{sets};
 ghost use Rattle.walk.specs.Shown.{Placed};
@@ -12,7 +14,7 @@ ghost use Rattle.index.specs.Steps.{climbing, Gathered};
 pub const MOST: usize = 512;
 
 // What came of it: an index of so many offsets, or why there is none.
-#[derive(Drop)]
+#[derive(Clone, Copy)]
 pub enum Indexed {
     Built(usize),
     TooLong,

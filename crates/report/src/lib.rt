@@ -1,4 +1,6 @@
 // One record of the report, in the front of a lent part; and what the last records of a report say.
+#![tactic(auto)]
+
 ghost use Rattle.std.specs.Prelude.{◌+◌, ◌/◌, ◌≤◌, ◌≡◌, length};
 ghost use Rattle.words.specs.BigEndian.{written};
 ghost use Rattle.report.specs.Record.{record_bytes, record_length, code_of, put_code};
@@ -21,14 +23,14 @@ pub const RECORDS: usize = 1024;
 
 pub const ROOM: usize = RECORDS * RECORD;
 
-#[derive(Drop)]
+#[derive(Clone, Copy)]
 pub enum Put {
     Done,
     NoRoom,
 }
 
 // The number of the last record, and number and code of the last whose code is not 0; 0 where there is none.
-#[derive(Drop)]
+#[derive(Clone, Copy)]
 pub struct Latest {
     pub received: u32,
     pub failed: u32,

@@ -1,5 +1,7 @@
 // What is left of a damaged list: the commands in it that codes 1 to 8 let pass are kept, and beside them it is told which stretches of bytes were skipped.
 // All of it is read into buffers first, and only then are the rooms touched.
+#![tactic(auto)]
+
 ghost use Rattle.std.specs.Prelude.{◌≤◌, ◌≡◌, length};
 ghost use Rattle.words.specs.Text.{place_after, stored_at};
 ghost use Rattle.rescue.specs.Pieces.{passing, stretch_to, table_of};
@@ -27,7 +29,7 @@ const LONGEST_COMMAND: usize = 128;
 const HALVES: u32 = 65536;
 
 // What came of it: so many bytes were kept and so many stretches skipped, or why nothing was written.
-#[derive(Drop)]
+#[derive(Clone, Copy)]
 pub enum Rescued {
     Done(usize, usize),
     TooLong,

@@ -8,7 +8,7 @@ use super::arrays::closed_at;
 use super::roles::{Role, is_clear, is_close, is_open, is_run, number_of};
 use super::{ENTRIES, GROUP, LONGEST, NONE};
 
-#[derive(Drop)]
+#[derive(Clone, Copy)]
 pub enum Denial {
     NoneOpen,
     AnotherOpen,
@@ -22,7 +22,7 @@ pub enum Denial {
     Running,
 }
 
-#[derive(Drop)]
+#[derive(Clone, Copy)]
 pub enum Permit {
     Granted,
     Denied(Denial),

@@ -16,7 +16,7 @@ use super::{GROUP, TOO_LONG};
 use wire::{Form, Found, Kind};
 
 // What a second handed over: the words of its entries in order, as the pool has them, and how many entries they are. Zeros stand behind them.
-#[derive(Drop)]
+#[derive(Clone, Copy)]
 pub struct Group {
     pub words: [u32; 192],
     pub count: u8,

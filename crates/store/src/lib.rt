@@ -1,5 +1,7 @@
 // The macro store: what each macro holds, which is open or runs, codes 11 to 19 and 25, the written-out list of a macro and its seconds.
 // Every public function is total: a store that no command sequence can reach is answered too, and nothing runs on.
+#![tactic(auto)]
+
 ghost use Rattle.std.specs.Prelude.{◌≡◌, cond, eqb};
 ghost use Rattle.store.specs.Pool.{marks_of};
 ghost use Rattle.store.specs.Effects.{fresh_store};
@@ -38,7 +40,7 @@ pub const GROUP: usize = 64;
 const TOO_MANY: u8 = 65;
 
 // An open or a closed macro m has `counts[m]` entries. All entries lie in one pool, three words to each (pool.rt).
-#[derive(Drop)]
+#[derive(Clone, Copy)]
 pub struct Store {
     pub pool: [u32; 576],
     pub counts: [u8; 8],
@@ -49,7 +51,7 @@ pub struct Store {
 }
 
 // A second's step: whether the store is sound, the macro that runs afterwards with its seconds left, and the group that was handed over.
-#[derive(Drop)]
+#[derive(Clone, Copy)]
 pub struct Step {
     pub sound: bool,
     pub running: u8,

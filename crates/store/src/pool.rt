@@ -17,7 +17,7 @@ pub(crate) const WORDS: usize = 3;
 const OPCODES: u32 = 65536;
 
 // The words of one entry.
-#[derive(Drop)]
+#[derive(Clone, Copy)]
 pub(crate) struct Entry {
     pub head: u32,
     pub first: u32,

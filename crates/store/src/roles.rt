@@ -5,7 +5,7 @@ ghost use Rattle.store.specs.Roles.{role_of, is_plain, is_open, is_close, is_run
 use wire::Kind;
 
 // The nine plain kinds are one role.
-#[derive(Drop)]
+#[derive(Clone, Copy)]
 pub enum Role {
     Plain,
     Open(u8),

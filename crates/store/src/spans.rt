@@ -24,7 +24,7 @@ pub(crate) enum Beat {
 
 // What a list spans: the sum of its waits, the entries of its first second and those behind its last WAIT, the most in any second, and whether it has
 // a WAIT. It is told up to TOO_LONG seconds and TOO_MANY entries.
-#[derive(Drop)]
+#[derive(Clone, Copy)]
 pub struct Span {
     pub waits: u16,
     pub first: u8,

@@ -10,7 +10,7 @@ use super::spans::{Span, beat_of, joined_with, no_span, seconds_of, span_at};
 use super::{ENTRIES, MACROS, NONE, arrays, checks, pool};
 use wire::Command;
 
-#[derive(Drop)]
+#[derive(Clone, Copy)]
 pub struct Tally {
     pub counts: [u8; 8],
     pub closed: [bool; 8],
@@ -21,7 +21,7 @@ pub struct Tally {
 }
 
 // What a survey of a store finds: whether it is sound, and its tally.
-#[derive(Drop)]
+#[derive(Clone, Copy)]
 pub struct Survey {
     pub sound: bool,
     pub tally: Tally,

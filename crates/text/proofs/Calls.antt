@@ -1,6 +1,6 @@
 -- What the calls answer, taken together: a refusal leaves the room; "listing and then assembling gives the same bytes"; and what was assembled is listed
 -- and assembled again to the same bytes.
-use Prim.Native.Nat.{ℕ, ◌+◌, ◌*◌, ◌≤◌}
+use Prim.Native.Nat.{ℕ, ◌*◌, ◌≤◌}
 use mathlib.Core.Path.{◌≡◌, refl, ap, subst}
 use mathlib.Core.Logic.{◌≢◌}
 use mathlib.Core.List.{List, [], ◌∷◌, ◌++◌, map}

@@ -13,7 +13,7 @@ use super::showing::LONGEST;
 use super::split::{LINE_FEED, front};
 
 // What one line adds: so many bytes, or a fault.
-#[derive(Drop)]
+#[derive(Clone, Copy)]
 pub enum Step {
     Gives(usize),
     Bad(Fault),

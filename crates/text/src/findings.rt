@@ -6,7 +6,7 @@ ghost use Rattle.text.specs.Findings.{told_fault, finding, no_room, translated_o
 use wire::{Refusal, Told};
 
 // Why a line is bad, or why a command cannot be listed.
-#[derive(Drop)]
+#[derive(Clone, Copy)]
 pub enum Fault {
     UnknownName,
     WrongCount,
@@ -16,14 +16,14 @@ pub enum Fault {
 }
 
 // A code with what was wrong with the number, and the line or the command that it is of: 0 where it is of none.
-#[derive(Drop)]
+#[derive(Clone, Copy)]
 pub struct Finding {
     pub told: Told,
     pub number: u32,
 }
 
 // A text made into a list, or a list into a text: how many bytes; or why not, and the number of the bad line or command, 0 where it is of none.
-#[derive(Drop)]
+#[derive(Clone, Copy)]
 pub enum Translated {
     Done(usize),
     TooLong,

@@ -16,7 +16,7 @@ const FIELD: u32 = 0x0080_0000;
 
 const QUARTERS_FIELD: u32 = 148;
 
-#[derive(Drop)]
+#[derive(Clone, Copy)]
 pub enum Quarters {
     Said(u32),
     Unsaid,

@@ -1,4 +1,6 @@
 // What a pupil types: lines with names, numbers and goals; whole texts to raw lists and back; the line that a record's number names.
+#![tactic(auto)]
+
 mod assembling;
 mod findings;
 mod goal;

@@ -11,7 +11,7 @@ use super::number::{Number, whole_of};
 use super::split::{SPACE, behind, front};
 
 // What a line carries: nothing, a command, or a fault.
-#[derive(Drop)]
+#[derive(Clone, Copy)]
 pub enum Line {
     Blank,
     Typed(wire::Command),

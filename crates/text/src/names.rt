@@ -5,7 +5,7 @@ ghost use Rattle.text.specs.Names.{macro_named, form_named};
 use super::same::same;
 use wire::Form;
 
-#[derive(Drop)]
+#[derive(Clone, Copy)]
 pub enum Named {
     Known(Form),
     Unknown,

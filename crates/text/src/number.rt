@@ -5,7 +5,7 @@ ghost use Rattle.text.specs.Steps.{Counted};
 
 use super::same::same;
 
-#[derive(Drop)]
+#[derive(Clone, Copy)]
 pub enum Number {
     Whole(u32),
     Malformed,

@@ -20,7 +20,7 @@ const BUFFER: usize = 2 * walk::LONGEST;
 const WHOLE: u32 = 4;
 
 // What the command at the front of a list comes to: a line can say it, or there is a fault.
-#[derive(Drop)]
+#[derive(Clone, Copy)]
 pub enum Offer {
     Sayable(Command),
     Bad(Fault),

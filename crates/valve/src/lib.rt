@@ -1,4 +1,6 @@
 // The gas valve's frame of 64 bytes, 32 words of 16 bits: reading (40 to 44) and writing (24). The valve itself is in `state`.
+#![tactic(auto)]
+
 ghost use Rattle.std.specs.Prelude.{◌≡◌, ◌/◌, ◌%◌, ◌≤◌, length, take, drop, if◌then◌else◌};
 ghost use Rattle.std.proofs.lemmas.List.Edits.{sets};
 ghost use Rattle.words.specs.BigEndian.{written};
@@ -10,21 +12,21 @@ mod state;
 pub use state::{Carried, Valve, Verdict};
 
 // What a frame asks of the valve: to arm, or to fire with a code.
-#[derive(Drop)]
+#[derive(Clone, Copy)]
 pub enum Act {
     Arm,
     Fire(u16),
 }
 
 // A frame: the two flags above the identifier, bit 15 and bit 14 of word 0, and what it asks. The sum is no field: the writer makes it.
-#[derive(Drop)]
+#[derive(Clone, Copy)]
 pub struct Frame {
     pub ocpl: bool,
     pub quiet: bool,
     pub act: Act,
 }
 
-#[derive(Drop)]
+#[derive(Clone, Copy)]
 pub enum Refusal {
     WrongSize,
     WrongSum,
@@ -35,13 +37,13 @@ pub enum Refusal {
     WrongCode,
 }
 
-#[derive(Drop)]
+#[derive(Clone, Copy)]
 pub enum Reading {
     Taken(Frame),
     Refused(Refusal),
 }
 
-#[derive(Drop)]
+#[derive(Clone, Copy)]
 pub enum Writing {
     Written,
     NoRoom,

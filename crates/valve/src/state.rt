@@ -7,21 +7,21 @@ ghost use Rattle.valve.specs.declared.Act.{Act};
 
 use super::{Act, Reading, Refusal, read_frame};
 
-#[derive(Drop)]
+#[derive(Clone, Copy)]
 pub enum Valve {
     Safe,
     Armed,
     Fired,
 }
 
-#[derive(Drop)]
+#[derive(Clone, Copy)]
 pub enum Verdict {
     Accepted,
     Refused(Refusal),
 }
 
 // A frame carried out: the valve afterwards, and the verdict.
-#[derive(Drop)]
+#[derive(Clone, Copy)]
 pub struct Carried {
     pub valve: Valve,
     pub verdict: Verdict,

@@ -77,7 +77,7 @@ unfolding start_after
 rest_at s zero = ⊎_elim (λ e. rw (none s e, e)) (λ more. rw (rests_more s more)) (ended s)
 rest_at s (suc k) =
     ⊎_elim
-    (λ e. rw (none s e, e, drop-nil (start_after [] (suc k))))
+    (λ e. rw (none s e, e, drop-nil _))
     (λ more. rw (rests_more s more, start_behind s k, ← drop-drop) (rest_at (behind s) k))
     (ended s)
 

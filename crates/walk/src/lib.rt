@@ -1,4 +1,6 @@
 // How a list of commands is walked: where each command begins, and the bytes of a reported command as a part of its sender's list.
+#![tactic(auto)]
+
 ghost use Rattle.std.specs.Prelude.{◌≡◌};
 ghost use Rattle.walk.specs.Shown.{start_of, bytes_at, command_of, shown_of, asked_of, offset_to, offset_of, slice_of, Placed};
 

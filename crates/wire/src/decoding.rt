@@ -8,7 +8,7 @@ use super::judging::{Judged, Refusal, judge_by};
 use super::kinds::{Command, kind_of};
 use super::table::{Form, Found, Layout, Row, row_of, rule_of};
 
-#[derive(Drop)]
+#[derive(Clone, Copy)]
 pub enum Reading {
     Taken(Command),
     Refused(Refusal),

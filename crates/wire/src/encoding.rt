@@ -9,7 +9,7 @@ use super::kinds::{Command, parts_of};
 use super::table::{Layout, row_of};
 
 // Written: how many bytes.
-#[derive(Drop)]
+#[derive(Clone, Copy)]
 pub enum Writing {
     Written(usize),
     Refused(Refusal),

@@ -7,7 +7,7 @@ use super::table::{FlagRule, Layout, Row, row_of};
 
 // An argument out of range: which one it is, 1 or 2, its value, and the lowest and the highest that are allowed. A goal's are bits. All four are 0
 // where there is none.
-#[derive(Drop)]
+#[derive(Clone, Copy)]
 pub struct Stray {
     pub par: u8,
     pub value: u32,
@@ -16,7 +16,7 @@ pub struct Stray {
 }
 
 // Why a command is refused on the wire. `OutOfRange` has the first argument that is.
-#[derive(Drop)]
+#[derive(Clone, Copy)]
 pub enum Refusal {
     TooFewBytes,
     LengthOutOfBounds,
@@ -32,13 +32,13 @@ pub enum Refusal {
 }
 
 // A code, and what was wrong with the number where it is 8; code 0 is acceptance.
-#[derive(Drop)]
+#[derive(Clone, Copy)]
 pub struct Told {
     pub code: u8,
     pub stray: Stray,
 }
 
-#[derive(Drop)]
+#[derive(Clone, Copy)]
 pub enum Judged {
     Allowed,
     Refused(Refusal),

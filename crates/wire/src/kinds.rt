@@ -7,7 +7,7 @@ ghost use Rattle.wire.specs.Kind.{parts_with, parts_of, kind_of};
 use super::table::Form;
 
 // One kind out of fifteen with its own arguments, as they stand on the wire; they may be out of range.
-#[derive(Drop)]
+#[derive(Clone, Copy)]
 pub enum Kind {
     ImgPwr(u8),
     ImgRegion(u16, u16),
@@ -27,14 +27,14 @@ pub enum Kind {
 }
 
 // A decoded command: the macro flag (true: append) and the kind.
-#[derive(Drop)]
+#[derive(Clone, Copy)]
 pub struct Command {
     pub flag: bool,
     pub kind: Kind,
 }
 
 // The form of a command and its arguments as numbers, goals by their bits; 0 where there is no such argument.
-#[derive(Drop)]
+#[derive(Clone, Copy)]
 pub struct Parts {
     pub form: Form,
     pub first: u32,

@@ -3,7 +3,7 @@ ghost use Rattle.std.specs.Prelude.{◌≡◌};
 ghost use Rattle.wire.specs.Table.{row_with, row_of, arguments_of, rule_of};
 
 // The fifteen commands without their arguments, in the order of the table.
-#[derive(Drop)]
+#[derive(Clone, Copy)]
 pub enum Form {
     ImgPwr,
     ImgRegion,
@@ -23,7 +23,7 @@ pub enum Form {
 }
 
 // How the argument words are laid out: none; 8 bits and a pad; 16 bits and a pad; 16 bits twice; two singles.
-#[derive(Drop)]
+#[derive(Clone, Copy)]
 pub enum Layout {
     Bare,
     Byte,
@@ -33,7 +33,7 @@ pub enum Layout {
 }
 
 // What the macro flag may be: either, never 1, always 1.
-#[derive(Drop)]
+#[derive(Clone, Copy)]
 pub enum FlagRule {
     Either,
     Never,
@@ -41,7 +41,7 @@ pub enum FlagRule {
 }
 
 // One row. An argument that a form does not have is 0 and has the limits 0 and 0.
-#[derive(Drop)]
+#[derive(Clone, Copy)]
 pub struct Row {
     pub opcode: u16,
     pub words: u16,
@@ -54,7 +54,7 @@ pub struct Row {
 }
 
 // What an opcode stands for: a form and its length in words.
-#[derive(Drop)]
+#[derive(Clone, Copy)]
 pub enum Found {
     Known(Form, u16),
     Unknown,

@@ -1,5 +1,7 @@
 // Big-endian numbers of 16 and 32 bits in byte slices: total readers, and writers into the front of a lent part; and text, from any place of it on.
 // A reader takes what lies past the end for 0. A writer that has too little room leaves it untouched and says so.
+#![tactic(auto)]
+
 ghost use Rattle.std.specs.Prelude.{◌+◌, ◌*◌, ◌≡◌};
 ghost use Rattle.words.specs.BigEndian.{byte_at, half_at, word_at, word_bytes, bytes_of, has_room, written};
 

@@ -1,0 +1,44 @@
+-- `store::groups::collect` meets its contract: one law for each turn, and the macro number falls at each call.
+use Prim.Native.Nat.{◌-◌}
+use native.Mathlib.Omega.{arith}
+use Rattle.store.specs.TallySteps.{store_of}
+use Rattle.store.specs.GroupSteps.{cursor_of}
+use Rattle.store.proofs.Turns.{walk_opens, walk_over, walk_done, walk_below, walk_takes, walk_waits, walk_follows, follows_below}
+use Rattle.store.proofs.groups.+collect.Goals as goal
+
+pub loop-i-init : goal.loop-i-init
+loop-i-init t c =
+    let args = c.args in
+    walk_opens (store_of args.words.now args.tally) args.m args.tally.spans (cursor_of args.spot args.group.now) _ _ _
+    c.requires.words_len c.requires.walked c.start_of-start.ensures c.size_of.ensures.0 c.end_of-end.ensures
+
+pub returns-then-spot : goal.returns-then-spot
+returns-then-spot t c = walk_done c.loop-i.invariant c.if-spot.true
+
+pub loop-i-preserved-in-Takes : goal.loop-i-preserved-in-Takes
+loop-i-preserved-in-Takes t c =
+    walk_takes c.loop-i.invariant c.entry_at-entry.result _ _ c.loop-i-test.true c.entry_at-entry.ensures.result_value
+    c.beat_in.ensures c.turn_in.ensures _ c.entry_at-entry.ensures.result_value_2
+    c.in-Takes.is c.taken-spot.ensures
+
+pub loop-i-preserved-in-Waits : goal.loop-i-preserved-in-Waits
+loop-i-preserved-in-Waits t c =
+    walk_waits c.loop-i.invariant c.entry_at-entry.result _ _ c.loop-i-test.true c.entry_at-entry.ensures.result_value
+    c.beat_in.ensures c.turn_in.ensures _ _ c.if-spot.false
+    c.in-Waits.is (c.waited-spot.ensures c.loop-i.group)
+
+pub collect-spot-requires : goal.collect-spot-requires
+collect-spot-requires t c =
+    let less =
+    follows_below c.loop-i.invariant c.entry_at-entry.result _ _ c.loop-i-test.true c.entry_at-entry.ensures.result_value
+    c.beat_in.ensures c.turn_in.ensures _ c.in-Follows.is in
+    (omega (arith, less, c.decreases), (c.loop-i.invariant.whole, walk_below c.loop-i.invariant _ less))
+
+pub loop-i-preserved : goal.loop-i-preserved
+loop-i-preserved t c =
+    walk_follows c.loop-i.invariant c.entry_at-entry.result _ _ c.loop-i-test.true c.entry_at-entry.ensures.result_value
+    c.beat_in.ensures c.turn_in.ensures _ _
+    c.in-Follows.is c.collect-spot.ensures
+
+pub returns : goal.returns
+returns t c = walk_over c.loop-i.invariant c.loop-i-test.false

@@ -1,0 +1,50 @@
+-- `sum_of` meets its contract: up to three words one by one, and else a loop whose invariant is that the sum is that of the first i words. The measure is
+-- what is left of n.
+use Prim.Native.Nat.{ℕ}
+use mathlib.Core.Path.{◌≡◌, refl, sym, ap, ◌∙◌}
+use mathlib.Core.List.{List}
+use native.Mathlib.Numerals.{add-one}
+use lib.Bits.{bit_xor, xor_zero_l}
+use borrow.Author.Rules.{rules}
+use Rattle.words.specs.BigEndian.{word_at}
+use Rattle.wire.specs.Read.{sum_of}
+use Rattle.wire.proofs.decoding.sum_of.Goals as goal
+
+-- The sums of one, two and three words.
+one_word : (s : List ℕ) → sum_of s 1 ≡ word_at s 0
+unfolding sum_of
+one_word s = xor_zero_l (word_at s 0)
+
+two_words : (s : List ℕ) → sum_of s 2 ≡ bit_xor (word_at s 0) (word_at s 4)
+unfolding sum_of
+two_words s = ap (λ w. bit_xor w (word_at s 4)) (one_word s)
+
+three_words : (s : List ℕ) → sum_of s 3 ≡ bit_xor (bit_xor (word_at s 0) (word_at s 4)) (word_at s 8)
+unfolding sum_of
+three_words s = ap (λ w. bit_xor w (word_at s 8)) (two_words s)
+
+pub returns-then-n-eq1 : goal.returns-then-n-eq1
+returns-then-n-eq1 c =
+    let s = c.args.s.now in
+    c.word_at.ensures ∙ sym (one_word s) ∙ ap (sum_of s) (sym c.if-n-eq1.true)
+
+pub returns-then-n-eq2 : goal.returns-then-n-eq2
+returns-then-n-eq2 c =
+    let s = c.args.s.now in
+    rw (c.word_at-then-n-eq2-2.ensures, c.word_at-then-n-eq2.ensures) (sym (two_words s) ∙ ap (sum_of s) (sym c.if-n-eq2.true))
+
+pub returns-then-n-eq3 : goal.returns-then-n-eq3
+returns-then-n-eq3 c =
+    let s = c.args.s.now in
+    rw (c.word_at-then-n-eq3-3.ensures, c.word_at-then-n-eq3-2.ensures, c.word_at-then-n-eq3.ensures)
+    (sym (three_words s) ∙ ap (sum_of s) (sym c.if-n-eq3.true))
+
+pub loop-i-init : goal.loop-i-init
+unfolding sum_of
+loop-i-init c = (search rules, refl)
+
+pub loop-i-preserved : goal.loop-i-preserved
+unfolding sum_of
+loop-i-preserved c =
+    let at = c.loop-i in
+    (search rules, rw (add-one at.i, at.invariant.1, c.word_at-sum.ensures))
