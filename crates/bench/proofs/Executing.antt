@@ -21,9 +21,12 @@ use Rattle.store.proofs.Entries.{length_commands}
 use Rattle.bench.specs.Second.{codes_shown, handed_to, handed_code, executed_all, handed_codes}
 
 -- Each entry has one code.
+codes_long : (ks : List Kind) (c : Camera) → length (handed_codes c ks) ≡ length ks
+codes_long [] c = refl
+codes_long (k ∷ ks) c = ap suc (codes_long ks _)
+
 pub one_code : (c : Camera) (ks : List Kind) → length (handed_codes c ks) ≡ length ks
-one_code c [] = refl
-one_code c (k ∷ ks) = ap suc (one_code _ ks)
+one_code c ks = codes_long ks c
 
 -- The entry at a place is handed to the camera that those before it left, and has its code by that camera.
 pub place_camera : (c : Camera) (ks : List Kind) (i : ℕ) (none : Kind) → i < length ks

@@ -8,7 +8,7 @@ use super::{Verdict, told_of};
 use store::{Permit, Tally};
 use wire::{Command, Judged, Reading, Told};
 
-#[derive(Drop)]
+#[derive(Clone, Copy)]
 pub enum Decision {
     Accepted(Command),
     Refused(Verdict),

@@ -1,6 +1,8 @@
 // The bench: camera and macro store as one state that goes in by value and comes back. Every call judges the state that it is handed (27).
 // A refused command hands back the bench as it came. What a crate above the bench has to name from below it, the bench hands on: commands as they are
 // read and judged, what is told of them, records, groups (`pub use`; for the meanings specs/Exports, for the laws proofs/Exports).
+#![tactic(auto)]
+
 ghost use Rattle.std.specs.Prelude.{◌≡◌, []};
 ghost use Rattle.camera.specs.Camera.{camera_second};
 ghost use Rattle.store.specs.Effects.{group_of, kinds_in};
@@ -29,14 +31,14 @@ pub use wire::{Command, Judged, Kind, Reading, Refusal, Told, judge, plain, read
 const DARK: u8 = 26;
 
 // The state: the camera, the macro store, and the numbers of the latest run.
-#[derive(Drop)]
+#[derive(Clone, Copy)]
 pub struct Bench {
     pub camera: Camera,
     pub store: Store,
     pub latest: Latest,
 }
 
-#[derive(Drop)]
+#[derive(Clone, Copy)]
 pub enum Verdict {
     Accepted,
     Unsound,
@@ -46,7 +48,7 @@ pub enum Verdict {
 }
 
 // A command carried out: the bench afterwards, and the verdict.
-#[derive(Drop)]
+#[derive(Clone, Copy)]
 pub struct Carried {
     pub bench: Bench,
     pub verdict: Verdict,
@@ -54,7 +56,7 @@ pub struct Carried {
 
 // A second passed: the bench afterwards, the verdict, the group of entries that was handed over, and the code of each: 26 for one that had no effect,
 // 0 for every other. Zeros stand behind them. (The codes stand before the group, for behind it the compiler copies the pool once more.)
-#[derive(Drop)]
+#[derive(Clone, Copy)]
 pub struct Passed {
     pub bench: Bench,
     pub verdict: Verdict,
@@ -62,21 +64,21 @@ pub struct Passed {
     pub group: Group,
 }
 
-#[derive(Drop)]
+#[derive(Clone, Copy)]
 pub enum Status {
     Known(Frame),
     Unsound,
 }
 
 // How many macro entries are free.
-#[derive(Drop)]
+#[derive(Clone, Copy)]
 pub enum Free {
     Known(u8),
     Unsound,
 }
 
 // The numbers of the housekeeping frame.
-#[derive(Drop)]
+#[derive(Clone, Copy)]
 pub enum Housekept {
     Known(Housekeeping),
     Unsound,
@@ -84,7 +86,7 @@ pub enum Housekept {
 
 // A bench at work without the pool of its macros' entries, which is lent beside it: the camera, the tally of the macros, and the numbers of the
 // latest run.
-#[derive(Drop)]
+#[derive(Clone, Copy)]
 struct Works {
     camera: Camera,
     tally: Tally,

@@ -13,7 +13,7 @@ use super::deciding::{Decision, decide_bytes, put_decided};
 use super::{Bench, Works, bench_of, survey, take_effect};
 pub use typed::{TypedBegun, TypedRan, finding_of};
 
-#[derive(Drop)]
+#[derive(Clone, Copy)]
 pub enum Begun {
     Done,
     ListTooLong,
@@ -22,7 +22,7 @@ pub enum Begun {
 }
 
 // A run: the bench afterwards, whether it was refused, and the number of records for each sender.
-#[derive(Drop)]
+#[derive(Clone, Copy)]
 pub struct Ran {
     pub bench: Bench,
     pub begun: Begun,

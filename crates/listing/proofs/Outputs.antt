@@ -20,8 +20,8 @@ use Rattle.listing.specs.Answer.{answer_for}
 use Rattle.listing.specs.Refusal.{refusal_line, refusal_room, printed_for, output_for, room_for}
 
 -- An outcome is what was found and how many bytes there are.
-pub outcome_of_lem : (m : Outcome) (found : Finding) (bytes : ℕ) → found ≡ m.found → bytes ≡ m.bytes → outcome found bytes ≡ m
-outcome_of_lem m found bytes is_found is_bytes = ap (λ f. outcome f bytes) is_found ∙ ap (outcome m.found) is_bytes
+pub outcome_of : (m : Outcome) (found : Finding) (bytes : ℕ) → found ≡ m.found → bytes ≡ m.bytes → outcome found bytes ≡ m
+outcome_of m found bytes is_found is_bytes = ap (λ f. outcome f bytes) is_found ∙ ap (outcome m.found) is_bytes
 
 -- By what was found, where the line has room too.
 module _ (numbered : Numbered) (found : Finding) (bytes room : List ℕ)

@@ -1,4 +1,6 @@
 // What the programs say: the kit's own list; a report as text, that is its header and a line for each record; and the line of a refusal.
+#![tactic(auto)]
+
 ghost use Rattle.std.specs.Prelude.{◌+◌, ◌/◌, ◌≤◌, ◌<◌, ◌≡◌, length, leb};
 ghost use Rattle.std.proofs.lemmas.List.Edits.{sets};
 ghost use Rattle.words.specs.BigEndian.{written};
@@ -24,7 +26,7 @@ const BLANK: u8 = b' ';
 const LINE_FEED: u8 = b'\n';
 
 // Put: how many bytes.
-#[derive(Drop)]
+#[derive(Clone, Copy)]
 pub enum Put {
     Done(usize),
     NoRoom,
@@ -41,7 +43,7 @@ pub fn bytes_of(put: Put) -> usize
 }
 
 // What a line says of a record, in the order of the columns. Public, since the meaning of a line names it.
-#[derive(Drop)]
+#[derive(Clone, Copy)]
 pub struct Fields {
     sender: u8,
     number: u32,

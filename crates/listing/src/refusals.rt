@@ -17,14 +17,14 @@ const LONGEST: usize = 81;
 const OUT_OF_RANGE: u8 = 8;
 
 // What a finding's number counts: the lines of a text, or the commands of a raw list.
-#[derive(Drop)]
+#[derive(Clone, Copy)]
 pub enum Numbered {
     Lines,
     Commands,
 }
 
 // What is to be written: how many bytes from the front of a room, and whether they are a refusal's line.
-#[derive(Drop)]
+#[derive(Clone, Copy)]
 pub struct Output {
     pub bytes: usize,
     pub refused: bool,

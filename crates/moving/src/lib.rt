@@ -1,4 +1,6 @@
 // What the programs of the memory card write: the list as it was moved, or the line that says why it was not.
+#![tactic(auto)]
+
 ghost use Rattle.std.specs.Prelude.{◌≤◌, ◌≡◌, length};
 ghost use Rattle.card.specs.Answers.{answer_of};
 ghost use Rattle.listing.specs.declared.refusals.Numbered.{Numbered};

@@ -1,5 +1,7 @@
 // Four seats share one bench. Each has a queue of its own; a turn carries out the oldest command of the next waiting seat. The state goes in by value
 // and comes back, and every call judges it (27). This crate stands above `bench` and relies on its promises alone.
+#![tactic(auto)]
+
 ghost use Rattle.std.specs.Prelude.{◌≡◌, []};
 ghost use Rattle.bench.specs.Exports.{group_of};
 ghost use Rattle.bench.specs.Second.{codes_shown};
@@ -20,7 +22,7 @@ pub use turns::{Served, Turned, code_of};
 pub const SEATS: u8 = 4;
 
 // The state: the shared bench, the four queues, and the seat that was served last.
-#[derive(Drop)]
+#[derive(Clone, Copy)]
 pub struct Seats {
     pub bench: Bench,
     pub queues: [Queue; 4],
@@ -28,7 +30,7 @@ pub struct Seats {
 }
 
 // A second passed: the seats afterwards, and the bench's own answer.
-#[derive(Drop)]
+#[derive(Clone, Copy)]
 pub struct Passed {
     pub seats: Seats,
     pub verdict: Verdict,

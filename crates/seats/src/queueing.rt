@@ -7,7 +7,7 @@ use super::{LONGEST, Queue, SEATS, Seats};
 use bench::{Command, Reading, Refusal, Told, Verdict};
 
 // What queueing answers.
-#[derive(Drop)]
+#[derive(Clone, Copy)]
 pub enum Entry {
     Taken,
     Unsound,
@@ -18,7 +18,7 @@ pub enum Entry {
 }
 
 // A command queued: the seats afterwards, and the answer.
-#[derive(Drop)]
+#[derive(Clone, Copy)]
 pub struct Queued {
     pub seats: Seats,
     pub entry: Entry,

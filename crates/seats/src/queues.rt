@@ -9,7 +9,7 @@ use bench::{Command, Judged, Kind};
 pub const LONGEST: usize = 32;
 
 // The commands that wait, how many they are, and how many the seat has queued so far, modulo 2^32.
-#[derive(Drop)]
+#[derive(Clone, Copy)]
 pub struct Queue {
     pub commands: [Command; 32],
     pub count: u8,

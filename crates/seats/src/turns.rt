@@ -13,7 +13,7 @@ use bench::Command;
 const UNSOUND: u8 = 27;
 
 // What a turn answers: the state was not sound, nobody waited, or a command was carried out.
-#[derive(Drop)]
+#[derive(Clone, Copy)]
 pub enum Served {
     Unsound,
     Nobody,
@@ -21,7 +21,7 @@ pub enum Served {
 }
 
 // A turn taken: the seats afterwards, the answer, and the bytes of the record of the command that was carried out; zeros where there was none.
-#[derive(Drop)]
+#[derive(Clone, Copy)]
 pub struct Turned {
     pub seats: Seats,
     pub served: Served,

@@ -15,7 +15,7 @@ use super::{Part, ended, run_list};
 use text::{Fault, Finding, Line, Translated};
 use wire::Told;
 
-#[derive(Drop)]
+#[derive(Clone, Copy)]
 pub enum TypedBegun {
     Done,
     TooLong,
@@ -25,7 +25,7 @@ pub enum TypedBegun {
 }
 
 // A run of a typed list: the bench afterwards, whether it was refused, and the number of records for each sender.
-#[derive(Drop)]
+#[derive(Clone, Copy)]
 pub struct TypedRan {
     pub bench: Bench,
     pub begun: TypedBegun,
