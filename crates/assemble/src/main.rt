@@ -1,9 +1,10 @@
 // The assembler: reads a typed list from standard input and writes the raw list that it says to standard output. Where the text is refused nothing
 // goes there, and the line that says why goes to standard error. What is written is made first, and written at once.
+#![tactic(auto)]
+
 ghost use Rattle.std.specs.Prelude.{◌≤◌, ◌≡◌, ◌++◌, length, drop};
 ghost use Rattle.assemble.specs.Printed.{refused, printed};
 
-use libc::{STDERR_FILENO, STDOUT_FILENO};
 use listing::{Numbered, Output};
 
 // A text of the longest and one byte more, so that a longer text is seen to be one.
@@ -37,11 +38,11 @@ fn put_printed(room: &mut [u8], typed: &[u8]) -> Output
     )
 }
 
-fn main() {
+fn main(rt: HostRuntime) {
     let mut typed = input_room();
-    let input = input::read_input(&mut typed);
+    let input = input::read_input(&mut rt.stdin(), &mut typed);
     if input.failed {
-        io::write_all(STDERR_FILENO, b"assemble: standard input cannot be read\n");
+        let _ = eprintln!(rt; "assemble: standard input cannot be read");
         return;
     }
     let read = input.bytes;
@@ -49,13 +50,10 @@ fn main() {
     let output = put_printed(&mut room, &typed[..read]);
     let put = output.bytes;
     if output.refused {
-        io::write_all(STDERR_FILENO, &room[..put]);
+        let _ = rt.stderr().write_all(&room[..put]);
         return;
     }
-    if !io::write_all(STDOUT_FILENO, &room[..put]) {
-        io::write_all(
-            STDERR_FILENO,
-            b"assemble: standard output cannot be written\n",
-        );
+    if rt.stdout().write_all(&room[..put]).is_err() {
+        let _ = eprintln!(rt; "assemble: standard output cannot be written");
     }
 }

@@ -1,9 +1,10 @@
 // From a memory card: reads a stored list from standard input and writes the raw list that it says to standard output. Where it is refused nothing goes
 // there, and the line that says why goes to standard error. What is written is made first, and written at once.
+#![tactic(auto)]
+
 ghost use Rattle.std.specs.Prelude.{◌≤◌, ◌≡◌, ◌++◌, length, drop};
 ghost use Rattle.from_card.specs.Printed.{refused, printed};
 
-use libc::{STDERR_FILENO, STDOUT_FILENO};
 use listing::Output;
 
 // The longest input that is looked at. No stored list that is taken comes near it: a raw list has at most 4,096 bytes, and its stored form 10 more.
@@ -35,32 +36,26 @@ fn put_printed(room: &mut [u8], stored: &[u8]) -> Output
     moving::put_moved(room, moved)
 }
 
-fn main() {
+fn main(rt: HostRuntime) {
     let mut stored = input_room();
-    let input = input::read_input(&mut stored);
+    let input = input::read_input(&mut rt.stdin(), &mut stored);
     if input.failed {
-        io::write_all(STDERR_FILENO, b"from_card: standard input cannot be read\n");
+        let _ = eprintln!(rt; "from_card: standard input cannot be read");
         return;
     }
     let read = input.bytes;
     if LONGEST < read {
-        io::write_all(
-            STDERR_FILENO,
-            b"from_card: the input is longer than 65536 bytes\n",
-        );
+        let _ = eprintln!(rt; "from_card: the input is longer than 65536 bytes");
         return;
     }
     let mut room = list_room();
     let output = put_printed(&mut room, &stored[..read]);
     let put = output.bytes;
     if output.refused {
-        io::write_all(STDERR_FILENO, &room[..put]);
+        let _ = rt.stderr().write_all(&room[..put]);
         return;
     }
-    if !io::write_all(STDOUT_FILENO, &room[..put]) {
-        io::write_all(
-            STDERR_FILENO,
-            b"from_card: standard output cannot be written\n",
-        );
+    if rt.stdout().write_all(&room[..put]).is_err() {
+        let _ = eprintln!(rt; "from_card: standard output cannot be written");
     }
 }

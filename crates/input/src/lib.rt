@@ -1,35 +1,42 @@
 // Standard input for the programs: as much of it as a room takes, and whether it could be read. A program whose room is one byte longer than what it
 // takes sees that there is more.
+#![tactic(auto)]
+
 ghost use Rattle.std.specs.Prelude.{◌≤◌, length};
 
-use libc::STDIN_FILENO;
+use std::io::Read;
 
 // What was read: how many bytes, and whether the read behind them failed.
-#[derive(Drop)]
+#[derive(Clone, Copy)]
 pub struct Input {
     pub bytes: usize,
     pub failed: bool,
 }
 
-// One read of standard input into the front of a room: no bytes at the input's end, or where it cannot be read.
-fn read_once(room: &mut [u8]) -> Input
+// One read into the front of a room: no bytes at the input's end, or where it cannot be read.
+fn read_once<R: Read>(reader: &mut R, room: &mut [u8]) -> Input
     ensures { result.bytes ≤ length room.new }
 {
-    let got = libc::read(STDIN_FILENO, room);
-    Input {
-        bytes: io::count(got, room),
-        failed: got < 0,
+    match reader.read(room) {
+        Ok(bytes) => Input {
+            bytes,
+            failed: false,
+        },
+        Err(_) => Input {
+            bytes: 0,
+            failed: true,
+        },
     }
 }
 
-// Reads standard input into the front of a room, until the room is full, the input ends or a read fails. That it failed is told: what was read by
-// then must not be taken for the whole.
-pub fn read_input(room: &mut [u8]) -> Input
+// Reads into the front of a room, until the room is full, the input ends or a read fails. That it failed is told: what was read by then must not be
+// taken for the whole.
+pub fn read_input<R: Read>(reader: &mut R, room: &mut [u8]) -> Input
     ensures { result.bytes ≤ length room.new }
 {
     let mut bytes = 0;
     while bytes < room.len() {
-        let more = read_once(&mut room[bytes..]);
+        let more = read_once(reader, &mut room[bytes..]);
         if more.bytes == 0 {
             return Input {
                 bytes,

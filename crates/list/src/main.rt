@@ -1,12 +1,13 @@
 // The list program: reads the pupil's raw list from standard input, runs the kit's list and then the pupil's on a fresh bench, and prints the report,
 // or one line where the run was refused. The whole text is made first, and written at once.
+#![tactic(auto)]
+
 ghost use Rattle.std.specs.Prelude.{◌≡◌, ◌≤◌, ◌++◌, length, drop};
 ghost use Rattle.report.specs.Record.{report_room};
 ghost use Rattle.listing.specs.Text.{text_room};
 ghost use Rattle.list.specs.Printed.{printed};
 
 use bench::Bench;
-use libc::{STDERR_FILENO, STDOUT_FILENO};
 use listing::Numbered;
 
 // A list of the longest and one byte more, so that a longer list is seen to be one.
@@ -49,17 +50,17 @@ fn put_printed(text: &mut [u8], pupil: &[u8]) -> usize
     listing::bytes_of(listing::put_report(text, &records[..end]))
 }
 
-fn main() {
+fn main(rt: HostRuntime) {
     let mut pupil = input_room();
-    let input = input::read_input(&mut pupil);
+    let input = input::read_input(&mut rt.stdin(), &mut pupil);
     if input.failed {
-        io::write_all(STDERR_FILENO, b"list: standard input cannot be read\n");
+        let _ = eprintln!(rt; "list: standard input cannot be read");
         return;
     }
     let read = input.bytes;
     let mut text = text_room();
     let put = put_printed(&mut text, &pupil[..read]);
-    if !io::write_all(STDOUT_FILENO, &text[..put]) {
-        io::write_all(STDERR_FILENO, b"list: standard output cannot be written\n");
+    if rt.stdout().write_all(&text[..put]).is_err() {
+        let _ = eprintln!(rt; "list: standard output cannot be written");
     }
 }

@@ -1,9 +1,10 @@
 // The lister: reads a raw list from standard input and writes the text that says it to standard output. Where the list is refused nothing goes
 // there, and the line that says why goes to standard error. What is written is made first, and written at once.
+#![tactic(auto)]
+
 ghost use Rattle.std.specs.Prelude.{◌≤◌, ◌≡◌, ◌++◌, length, drop};
 ghost use Rattle.lister.specs.Printed.{refused, printed};
 
-use libc::{STDERR_FILENO, STDOUT_FILENO};
 use listing::{Numbered, Output};
 
 // A list of the longest and one byte more, so that a longer list is seen to be one.
@@ -40,11 +41,11 @@ fn put_printed(room: &mut [u8], raw: &[u8]) -> Output
     )
 }
 
-fn main() {
+fn main(rt: HostRuntime) {
     let mut raw = input_room();
-    let input = input::read_input(&mut raw);
+    let input = input::read_input(&mut rt.stdin(), &mut raw);
     if input.failed {
-        io::write_all(STDERR_FILENO, b"lister: standard input cannot be read\n");
+        let _ = eprintln!(rt; "lister: standard input cannot be read");
         return;
     }
     let read = input.bytes;
@@ -52,13 +53,10 @@ fn main() {
     let output = put_printed(&mut room, &raw[..read]);
     let put = output.bytes;
     if output.refused {
-        io::write_all(STDERR_FILENO, &room[..put]);
+        let _ = rt.stderr().write_all(&room[..put]);
         return;
     }
-    if !io::write_all(STDOUT_FILENO, &room[..put]) {
-        io::write_all(
-            STDERR_FILENO,
-            b"lister: standard output cannot be written\n",
-        );
+    if rt.stdout().write_all(&room[..put]).is_err() {
+        let _ = eprintln!(rt; "lister: standard output cannot be written");
     }
 }

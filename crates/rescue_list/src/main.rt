@@ -1,11 +1,12 @@
 // Rescue: reads a damaged list from standard input, and writes the commands in it that codes 1 to 8 let pass to standard output. For each stretch of bytes
 // that was skipped a line goes to standard error. Where the list is too long nothing goes to standard output, and the line that says so to standard error.
+#![tactic(auto)]
+
 ghost use Rattle.std.specs.Prelude.{◌+◌, ◌*◌, ◌/◌, ◌≤◌, ◌≡◌, ◌++◌, length, drop};
 ghost use Rattle.std.proofs.lemmas.List.Edits.{sets};
 ghost use Rattle.rescue_list.specs.Printed.{printed, noted};
 ghost use Rattle.rescue_list.specs.Steps.{line_with, lines_to};
 
-use libc::{STDERR_FILENO, STDOUT_FILENO};
 use listing::Numbered;
 use text::Finding;
 
@@ -102,14 +103,11 @@ fn put_printed(room: &mut [u8], notes: &mut [u8], list: &[u8]) -> Output
     }
 }
 
-fn main() {
+fn main(rt: HostRuntime) {
     let mut list = input_room();
-    let input = input::read_input(&mut list);
+    let input = input::read_input(&mut rt.stdin(), &mut list);
     if input.failed {
-        io::write_all(
-            STDERR_FILENO,
-            b"rescue_list: standard input cannot be read\n",
-        );
+        let _ = eprintln!(rt; "rescue_list: standard input cannot be read");
         return;
     }
     let read = input.bytes;
@@ -118,12 +116,9 @@ fn main() {
     let output = put_printed(&mut room, &mut notes, &list[..read]);
     let put = output.printed;
     let noted = output.noted;
-    if !io::write_all(STDOUT_FILENO, &room[..put]) {
-        io::write_all(
-            STDERR_FILENO,
-            b"rescue_list: standard output cannot be written\n",
-        );
+    if rt.stdout().write_all(&room[..put]).is_err() {
+        let _ = eprintln!(rt; "rescue_list: standard output cannot be written");
         return;
     }
-    io::write_all(STDERR_FILENO, &notes[..noted]);
+    let _ = rt.stderr().write_all(&notes[..noted]);
 }

@@ -1,9 +1,10 @@
 // To a memory card: reads a raw list from standard input and writes its stored form to standard output. Where the list is refused nothing goes there,
 // and the line that says why goes to standard error. What is written is made first, and written at once.
+#![tactic(auto)]
+
 ghost use Rattle.std.specs.Prelude.{◌≤◌, ◌≡◌, ◌++◌, length, drop};
 ghost use Rattle.to_card.specs.Printed.{refused, printed};
 
-use libc::{STDERR_FILENO, STDOUT_FILENO};
 use listing::Output;
 
 // A list of the longest and one byte more, so that a longer list is seen to be one.
@@ -35,11 +36,11 @@ fn put_printed(room: &mut [u8], raw: &[u8]) -> Output
     moving::put_moved(room, moved)
 }
 
-fn main() {
+fn main(rt: HostRuntime) {
     let mut raw = input_room();
-    let input = input::read_input(&mut raw);
+    let input = input::read_input(&mut rt.stdin(), &mut raw);
     if input.failed {
-        io::write_all(STDERR_FILENO, b"to_card: standard input cannot be read\n");
+        let _ = eprintln!(rt; "to_card: standard input cannot be read");
         return;
     }
     let read = input.bytes;
@@ -47,13 +48,10 @@ fn main() {
     let output = put_printed(&mut room, &raw[..read]);
     let put = output.bytes;
     if output.refused {
-        io::write_all(STDERR_FILENO, &room[..put]);
+        let _ = rt.stderr().write_all(&room[..put]);
         return;
     }
-    if !io::write_all(STDOUT_FILENO, &room[..put]) {
-        io::write_all(
-            STDERR_FILENO,
-            b"to_card: standard output cannot be written\n",
-        );
+    if rt.stdout().write_all(&room[..put]).is_err() {
+        let _ = eprintln!(rt; "to_card: standard output cannot be written");
     }
 }

@@ -1,12 +1,13 @@
 // The program for pupils: reads a typed list from standard input, runs the kit's list and then the typed one on a fresh bench, and prints the report,
 // in which the pupil's numbers are lines of the text, or one line where the text was refused. The whole text is made first, and written at once.
+#![tactic(auto)]
+
 ghost use Rattle.std.specs.Prelude.{◌≡◌, ◌≤◌, ◌++◌, length, drop};
 ghost use Rattle.report.specs.Record.{report_room};
 ghost use Rattle.listing.specs.Text.{text_room};
 ghost use Rattle.typed.specs.Printed.{printed};
 
 use bench::Bench;
-use libc::{STDERR_FILENO, STDOUT_FILENO};
 use listing::Numbered;
 
 // A text of the longest and one byte more, so that a longer text is seen to be one.
@@ -50,17 +51,17 @@ fn put_printed(room: &mut [u8], typed: &[u8]) -> usize
     listing::bytes_of(listing::put_report(room, &records[..end]))
 }
 
-fn main() {
+fn main(rt: HostRuntime) {
     let mut typed = input_room();
-    let input = input::read_input(&mut typed);
+    let input = input::read_input(&mut rt.stdin(), &mut typed);
     if input.failed {
-        io::write_all(STDERR_FILENO, b"typed: standard input cannot be read\n");
+        let _ = eprintln!(rt; "typed: standard input cannot be read");
         return;
     }
     let read = input.bytes;
     let mut room = text_room();
     let put = put_printed(&mut room, &typed[..read]);
-    if !io::write_all(STDOUT_FILENO, &room[..put]) {
-        io::write_all(STDERR_FILENO, b"typed: standard output cannot be written\n");
+    if rt.stdout().write_all(&room[..put]).is_err() {
+        let _ = eprintln!(rt; "typed: standard output cannot be written");
     }
 }
