@@ -1,5 +1,7 @@
 // What the test programs print of a bench's answers: a second with the entries that it handed over, and the status frame. It is no part of `tellings`,
 // which knows nothing of a bench.
+#![tactic(auto)]
+
 mod names;
 
 use bench::{Group, Status, Verdict};

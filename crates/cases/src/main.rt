@@ -1,6 +1,8 @@
 // Cases by name: each line of standard input, `VERB WHAT IS TRIED: BYTES`, is tried and printed as `VERB WHAT IS TRIED: ANSWER`.
 // A bench goes from line to line: a few quiet verbs, which print nothing, make the one that the next lines ask.
 // The cases stand in this crate's `stdin`, by theme, and the answers that the rules ask for in its `stdout`; what is printed must equal them.
+#![tactic(auto)]
+
 mod asking;
 mod cards;
 mod compare;
@@ -229,9 +231,14 @@ fn each(text: &[u8]) {
     }
 }
 
+// The room that the input is read into.
+fn text_room() -> [u8; TEXT] {
+    [0u8; TEXT]
+}
+
 // Tries every line of the input.
 fn main() {
-    let mut text = [0u8; TEXT];
+    let mut text = text_room();
     let count = io::read_full(0, &mut text);
     each(&text[..count]);
     if count == TEXT {

@@ -14,7 +14,7 @@ const GROUP: u32 = 128;
 const SEVEN_DIGITS: u32 = 0x1000_0000;
 
 // What the next character is: plain, in quotes, behind a backslash, a digit behind `\x`; or in angle brackets, before a number, or behind digits that say this.
-#[derive(Drop)]
+#[derive(Clone, Copy)]
 enum Mode {
     Plain,
     Quoted,

@@ -5,7 +5,7 @@ use script::rooms::FILL;
 use script::{Place, output, rooms};
 
 // Which way a list is moved.
-#[derive(Drop)]
+#[derive(Clone, Copy)]
 pub enum Way {
     ToCard,
     FromCard,

@@ -1,5 +1,7 @@
 // Tries what is done with whole lists of commands by a script of items, and prints what each one answers. The program decides nothing itself: it
 // hands the script's bytes to the libraries and prints what they answer. The items stand in `items`; numbers of several bytes are big-endian.
+#![tactic(auto)]
+
 mod cards;
 mod indexes;
 mod items;

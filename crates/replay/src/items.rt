@@ -6,7 +6,7 @@ use bench::Bench;
 use script::Place;
 
 // The bench, and where the replay stands in the script.
-#[derive(Drop)]
+#[derive(Clone, Copy)]
 pub struct State {
     pub bench: Bench,
     pub place: Place,

@@ -1,5 +1,7 @@
 // Replays a script of events on a fresh bench and prints what each one answers. The program decides nothing itself: it hands the script's bytes to
 // the libraries and prints what they answer. The items that a script is made of stand in `items`; numbers of several bytes are big-endian.
+#![tactic(auto)]
+
 mod commands;
 mod frames;
 mod items;

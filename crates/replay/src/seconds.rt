@@ -4,7 +4,7 @@ use bench::Bench;
 use script::output;
 
 // Some seconds passed: the bench afterwards, and how many entries they handed over in all.
-#[derive(Drop)]
+#[derive(Clone, Copy)]
 pub struct Waited {
     pub bench: Bench,
     pub entries: u32,

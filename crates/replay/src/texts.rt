@@ -7,7 +7,7 @@ use script::{Place, output, rooms};
 use text::{Finding, Translated};
 
 // Which way a list is translated: from a text to its raw list, or back.
-#[derive(Drop)]
+#[derive(Clone, Copy)]
 pub enum Way {
     ToList,
     ToText,

@@ -1,5 +1,7 @@
 // What the test programs share. Each takes a script of items from standard input, hands their bytes to the libraries that it tries, and prints what
 // they answer: reading the script, stretches of it, where a program stands in it, lent rooms, and the transcript.
+#![tactic(auto)]
+
 ghost use Rattle.io.specs.Counts.{IsPrefixLen};
 
 pub mod offsets;

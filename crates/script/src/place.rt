@@ -5,7 +5,7 @@ ghost use Rattle.script.specs.Places.{start_place, goes_on, place_after};
 use super::output;
 
 // The place of the next item, how much of the output's buffer is used, and whether every item was good so far.
-#[derive(Drop)]
+#[derive(Clone, Copy)]
 pub struct Place {
     pub at: usize,
     pub used: usize,

@@ -4,7 +4,7 @@ ghost use Rattle.std.specs.Prelude.{◌≡◌};
 ghost use Rattle.script.specs.Stretches.{no_stretch, stretch_of, short_of, long_of, bytes_of, front_of};
 
 // Where a stretch begins and ends, and whether the script has it whole.
-#[derive(Drop)]
+#[derive(Clone, Copy)]
 pub struct Stretch {
     pub from: usize,
     pub to: usize,

@@ -5,7 +5,7 @@ use script::Place;
 use seats::Seats;
 
 // The seats, and where the program stands in the script.
-#[derive(Drop)]
+#[derive(Clone, Copy)]
 pub struct State {
     pub seats: Seats,
     pub place: Place,

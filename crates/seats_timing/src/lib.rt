@@ -1,5 +1,7 @@
 // The jobs of the four seats that `speed/` measures, in a library by themselves: beside those of `timing` the compiler would no longer put what decides
 // and carries out a command into the loop of a run, for a turn asks for the same (speed/README.md). Each job does as those do, and folds as they fold.
+#![tactic(auto)]
+
 use bench::Bench;
 use camera::Camera;
 use seats::{Queue, Seats, Served};
@@ -141,7 +143,7 @@ fn seats_with(events: &[u8]) -> Seats {
 }
 
 // Seats after some work, and what came out of it folded into one number.
-#[derive(Drop)]
+#[derive(Clone, Copy)]
 pub struct LaterSeats {
     pub seats: Seats,
     pub sum: u64,

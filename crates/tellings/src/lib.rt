@@ -1,5 +1,7 @@
 // What the test programs print of a refusal: its code, the line or command that it is of, and what was wrong with the number. It is no part of
 // `script`, which knows nothing of commands.
+#![tactic(auto)]
+
 use script::{output, rooms};
 use wire::{Stray, Told};
 

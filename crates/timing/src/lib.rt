@@ -1,5 +1,7 @@
 // The jobs that `speed/` measures: each exported function does one job many times over, so that the call itself costs nothing, and folds what
 // comes out into one number, so that none of the work can be left out. Bytes go in and out as slices.
+#![tactic(auto)]
+
 use bench::{Bench, Housekept, Status};
 use card::Moved;
 use frame::Frame;
@@ -535,7 +537,7 @@ pub fn with_bench(sum: u64, bench: Bench) -> u64 {
 }
 
 // A bench after some work, and what came out of it folded into one number.
-#[derive(Drop)]
+#[derive(Clone, Copy)]
 pub struct Later {
     pub bench: Bench,
     pub sum: u64,

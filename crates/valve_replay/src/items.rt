@@ -5,7 +5,7 @@ use script::Place;
 use valve::Valve;
 
 // The valve, and where the program stands in the script.
-#[derive(Drop)]
+#[derive(Clone, Copy)]
 pub struct State {
     pub valve: Valve,
     pub place: Place,

@@ -1,5 +1,7 @@
 // Tries the gas valve by a script of items, and prints what each one answers. The program decides nothing itself: it hands the script's bytes to the
 // library and prints what that answers. The items stand in `items`; numbers of several bytes are big-endian.
+#![tactic(auto)]
+
 mod frames;
 mod items;
 
