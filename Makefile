@@ -5,11 +5,11 @@
 .PHONY: run programs test mutants speed
 
 run:
-	rt check typed
+	@tools/built typed
 	@tools/sample
 
 programs:
-	rt check typed assemble lister list to_card from_card rescue_list
+	@tools/built typed assemble lister list to_card from_card rescue_list
 
 test:
 	@tools/test
