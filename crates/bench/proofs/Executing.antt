@@ -23,7 +23,7 @@ use Rattle.bench.specs.Second.{codes_shown, handed_to, handed_code, executed_all
 -- Each entry has one code.
 codes_long : (ks : List Kind) (c : Camera) → length (handed_codes c ks) ≡ length ks
 codes_long [] c = refl
-codes_long (k ∷ ks) c = ap suc (codes_long ks _)
+codes_long (k ∷ ks) c = ap suc (codes_long ks (handed_to c k))
 
 pub one_code : (c : Camera) (ks : List Kind) → length (handed_codes c ks) ≡ length ks
 one_code c ks = codes_long ks c

@@ -1,5 +1,5 @@
-// Standard input for the programs: as much of it as a room takes, and whether it could be read. A program whose room is one byte longer than what it
-// takes sees that there is more.
+// What a program reads, from the reader that it lends, which is standard input: as much of it as a room takes, and whether it could be read. A program
+// whose room is one byte longer than what it takes sees that there is more.
 #![tactic(auto)]
 
 ghost use Rattle.std.specs.Prelude.{◌≤◌, length};

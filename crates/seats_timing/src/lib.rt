@@ -168,8 +168,7 @@ fn queueing(seats: Seats, sum: u64, events: &[u8]) -> LaterSeats {
 }
 
 // So many times over, the commands of all events are queued where those of the first list wait; then the last seats.
-#[unsafe(no_mangle)]
-pub extern "C" fn timing_queue(waiting: &[u8], events: &[u8], times: u32) -> u64 {
+pub fn timing_queue(waiting: &[u8], events: &[u8], times: u32) -> u64 {
     let start = seats_with(waiting);
     let mut last = start;
     let mut sum: u64 = 0;
@@ -200,8 +199,7 @@ fn turning(seats: Seats, sum: u64, turns: u32) -> LaterSeats {
 }
 
 // So many times over, so many turns are taken where the commands of these events wait; then the last seats.
-#[unsafe(no_mangle)]
-pub extern "C" fn timing_turn(waiting: &[u8], turns: u32, times: u32) -> u64 {
+pub fn timing_turn(waiting: &[u8], turns: u32, times: u32) -> u64 {
     let start = seats_with(waiting);
     let mut last = start;
     let mut sum: u64 = 0;
@@ -315,8 +313,7 @@ fn happened(seats: Seats, sum: u64, event: &[u8]) -> LaterSeats {
 }
 
 // Four seats on a fresh bench, and all these events one after another; the whole state behind each.
-#[unsafe(no_mangle)]
-pub extern "C" fn timing_seats(events: &[u8]) -> u64 {
+pub fn timing_seats(events: &[u8]) -> u64 {
     let count = events.len() / EVENT;
     let mut seats = Seats::fresh();
     let mut sum: u64 = 0;

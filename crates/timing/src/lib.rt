@@ -1,5 +1,5 @@
-// The jobs that `speed/` measures: each exported function does one job many times over, so that the call itself costs nothing, and folds what
-// comes out into one number, so that none of the work can be left out. Bytes go in and out as slices.
+// The jobs that `speed/` measures: each function that `timing_c` hands to C does one job many times over, so that the call itself costs nothing, and folds
+// what comes out into one number, so that none of the work can be left out. Bytes go in and out as slices.
 #![tactic(auto)]
 
 use bench::{Bench, Housekept, Status};
@@ -126,8 +126,7 @@ fn read_one(sum: u64, bytes: &[u8]) -> u64 {
 }
 
 // Reads a command so many times, in turn each of the sixteen that lie sixteen bytes apart.
-#[unsafe(no_mangle)]
-pub extern "C" fn timing_read(bytes: &[u8], times: u32) -> u64 {
+pub fn timing_read(bytes: &[u8], times: u32) -> u64 {
     if bytes.len() < COMMANDS * COMMAND {
         return 0;
     }
@@ -177,8 +176,7 @@ fn write_one(sum: u64, command: Command, room: &mut [u8]) -> u64 {
 }
 
 // Writes a command so many times, in turn each of the sixteen that lie sixteen bytes apart in `bytes`, to the same place of the room.
-#[unsafe(no_mangle)]
-pub extern "C" fn timing_write(bytes: &[u8], room: &mut [u8], times: u32) -> u64 {
+pub fn timing_write(bytes: &[u8], room: &mut [u8], times: u32) -> u64 {
     if room.len() < COMMANDS * COMMAND {
         return 0;
     }
@@ -203,8 +201,7 @@ fn read_frame_one(sum: u64, bytes: &[u8]) -> u64 {
 }
 
 // Reads a frame so many times, in turn each of the eight that lie one after another.
-#[unsafe(no_mangle)]
-pub extern "C" fn timing_frame_read(bytes: &[u8], times: u32) -> u64 {
+pub fn timing_frame_read(bytes: &[u8], times: u32) -> u64 {
     if bytes.len() < FRAMES * frame::SIZE {
         return 0;
     }
@@ -275,8 +272,7 @@ fn write_frame_one(sum: u64, f: Frame, room: &mut [u8]) -> u64 {
 }
 
 // Writes a frame so many times, in turn each of the eight that lie one after another in `bytes`, to the same place of the room.
-#[unsafe(no_mangle)]
-pub extern "C" fn timing_frame_write(bytes: &[u8], room: &mut [u8], times: u32) -> u64 {
+pub fn timing_frame_write(bytes: &[u8], room: &mut [u8], times: u32) -> u64 {
     if room.len() < FRAMES * frame::SIZE {
         return 0;
     }
@@ -304,8 +300,7 @@ fn read_housekeeping_one(sum: u64, bytes: &[u8]) -> u64 {
 }
 
 // Reads a housekeeping frame so many times, in turn each of the eight that begin 32 bytes apart; so many bytes of each.
-#[unsafe(no_mangle)]
-pub extern "C" fn timing_housekeeping_read(bytes: &[u8], each: u32, times: u32) -> u64 {
+pub fn timing_housekeeping_read(bytes: &[u8], each: u32, times: u32) -> u64 {
     if bytes.len() < FRAMES * APART {
         return 0;
     }
@@ -365,13 +360,7 @@ fn write_housekeeping_one(sum: u64, h: Housekeeping, room: &mut [u8]) -> u64 {
 
 // Writes a housekeeping frame so many times, in turn each of the eight that begin 32 bytes apart in `bytes`, to the same place of the room; each has
 // so many bytes of room.
-#[unsafe(no_mangle)]
-pub extern "C" fn timing_housekeeping_write(
-    bytes: &[u8],
-    room: &mut [u8],
-    each: u32,
-    times: u32,
-) -> u64 {
+pub fn timing_housekeeping_write(bytes: &[u8], room: &mut [u8], each: u32, times: u32) -> u64 {
     if room.len() < FRAMES * APART {
         return 0;
     }
@@ -401,8 +390,7 @@ fn read_valve_one(sum: u64, bytes: &[u8]) -> u64 {
 }
 
 // Reads a valve's frame so many times, in turn each of the eight that begin 80 bytes apart; so many bytes of each.
-#[unsafe(no_mangle)]
-pub extern "C" fn timing_valve_read(bytes: &[u8], each: u32, times: u32) -> u64 {
+pub fn timing_valve_read(bytes: &[u8], each: u32, times: u32) -> u64 {
     if bytes.len() < FRAMES * VALVE_APART {
         return 0;
     }
@@ -461,8 +449,7 @@ fn write_valve_one(sum: u64, f: valve::Frame, room: &mut [u8]) -> u64 {
 
 // Writes a valve's frame so many times, in turn each of the eight that begin 80 bytes apart in `bytes`, to the same place of the room; each has so many
 // bytes of room.
-#[unsafe(no_mangle)]
-pub extern "C" fn timing_valve_write(bytes: &[u8], room: &mut [u8], each: u32, times: u32) -> u64 {
+pub fn timing_valve_write(bytes: &[u8], room: &mut [u8], each: u32, times: u32) -> u64 {
     if room.len() < FRAMES * VALVE_APART {
         return 0;
     }
@@ -493,8 +480,7 @@ fn with_verdict(sum: u64, verdict: Verdict) -> u64 {
 
 // Has a fresh valve carry out so many frames, in turn each of the eight that begin 80 bytes apart, so many bytes of each; the code and the status word
 // behind each.
-#[unsafe(no_mangle)]
-pub extern "C" fn timing_valve_carry_out(bytes: &[u8], each: u32, times: u32) -> u64 {
+pub fn timing_valve_carry_out(bytes: &[u8], each: u32, times: u32) -> u64 {
     if bytes.len() < FRAMES * VALVE_APART {
         return 0;
     }
@@ -552,8 +538,7 @@ fn one_run(sum: u64, kit: &[u8], pupil: &[u8], room: &mut [u8]) -> Later {
 }
 
 // Runs these two lists so many times, each time on a fresh bench; then the last one's status and housekeeping.
-#[unsafe(no_mangle)]
-pub extern "C" fn timing_run(kit: &[u8], pupil: &[u8], room: &mut [u8], times: u32) -> u64 {
+pub fn timing_run(kit: &[u8], pupil: &[u8], room: &mut [u8], times: u32) -> u64 {
     let mut sum: u64 = 0;
     let mut last = Bench::fresh();
     let mut i: u32 = 0;
@@ -597,8 +582,7 @@ fn passing_again(start: Bench, seconds: u32, times: u32) -> u64 {
 }
 
 // A fresh bench runs this list; then, so many times over, that bench passes so many seconds.
-#[unsafe(no_mangle)]
-pub extern "C" fn timing_seconds(list: &[u8], room: &mut [u8], seconds: u32, times: u32) -> u64 {
+pub fn timing_seconds(list: &[u8], room: &mut [u8], seconds: u32, times: u32) -> u64 {
     let ran = Bench::fresh().run(&list[..0], list, room);
     let start = ran.bench;
     passing_again(start, seconds, times)
@@ -612,8 +596,7 @@ fn with_translated(sum: u64, translated: Translated) -> u64 {
 }
 
 // Assembles a text so many times, to the same place of the room.
-#[unsafe(no_mangle)]
-pub extern "C" fn timing_assemble(typed: &[u8], room: &mut [u8], times: u32) -> u64 {
+pub fn timing_assemble(typed: &[u8], room: &mut [u8], times: u32) -> u64 {
     let mut sum: u64 = 0;
     let mut i: u32 = 0;
     while i < times {
@@ -624,8 +607,7 @@ pub extern "C" fn timing_assemble(typed: &[u8], room: &mut [u8], times: u32) -> 
 }
 
 // Lists a raw list so many times, to the same place of the room.
-#[unsafe(no_mangle)]
-pub extern "C" fn timing_list(raw: &[u8], room: &mut [u8], times: u32) -> u64 {
+pub fn timing_list(raw: &[u8], room: &mut [u8], times: u32) -> u64 {
     let mut sum: u64 = 0;
     let mut i: u32 = 0;
     while i < times {
@@ -656,8 +638,7 @@ fn with_offsets(sum: u64, offsets: &[u16]) -> u64 {
 }
 
 // Builds the index of a list so many times, from the same offsets of an earlier one, to the same place of the room; then every offset in the room.
-#[unsafe(no_mangle)]
-pub extern "C" fn timing_index(list: &[u8], old: &[u16], room: &mut [u16], times: u32) -> u64 {
+pub fn timing_index(list: &[u8], old: &[u16], room: &mut [u16], times: u32) -> u64 {
     let mut sum: u64 = 0;
     let mut i: u32 = 0;
     while i < times {
@@ -688,8 +669,7 @@ fn number_of(number: u32, sum: u64) -> u32 {
 }
 
 // Looks a command up through these offsets so many times.
-#[unsafe(no_mangle)]
-pub extern "C" fn timing_look_up(list: &[u8], offsets: &[u16], number: u32, times: u32) -> u64 {
+pub fn timing_look_up(list: &[u8], offsets: &[u16], number: u32, times: u32) -> u64 {
     let mut sum: u64 = 0;
     let mut i: u32 = 0;
     while i < times {
@@ -701,8 +681,7 @@ pub extern "C" fn timing_look_up(list: &[u8], offsets: &[u16], number: u32, time
 }
 
 // Shows a command so many times, by a walk from the start of its sender's list.
-#[unsafe(no_mangle)]
-pub extern "C" fn timing_shown<'a>(
+pub fn timing_shown<'a>(
     kit: &'a [u8],
     pupil: &'a [u8],
     sender: u8,
@@ -729,8 +708,7 @@ fn with_moved(sum: u64, moved: Moved) -> u64 {
 }
 
 // Moves a raw list to a card so many times, to the same place of the room.
-#[unsafe(no_mangle)]
-pub extern "C" fn timing_to_card(list: &[u8], room: &mut [u8], times: u32) -> u64 {
+pub fn timing_to_card(list: &[u8], room: &mut [u8], times: u32) -> u64 {
     let mut sum: u64 = 0;
     let mut i: u32 = 0;
     while i < times {
@@ -741,8 +719,7 @@ pub extern "C" fn timing_to_card(list: &[u8], room: &mut [u8], times: u32) -> u6
 }
 
 // Moves a stored list from a card so many times, to the same place of the room.
-#[unsafe(no_mangle)]
-pub extern "C" fn timing_from_card(stored: &[u8], room: &mut [u8], times: u32) -> u64 {
+pub fn timing_from_card(stored: &[u8], room: &mut [u8], times: u32) -> u64 {
     let mut sum: u64 = 0;
     let mut i: u32 = 0;
     while i < times {
@@ -760,8 +737,7 @@ fn with_rescued(sum: u64, rescued: Rescued) -> u64 {
 }
 
 // Rescues a damaged list so many times, to the same place of the room and of the table.
-#[unsafe(no_mangle)]
-pub extern "C" fn timing_rescue(list: &[u8], room: &mut [u8], table: &mut [u8], times: u32) -> u64 {
+pub fn timing_rescue(list: &[u8], room: &mut [u8], table: &mut [u8], times: u32) -> u64 {
     let mut sum: u64 = 0;
     let mut i: u32 = 0;
     while i < times {
