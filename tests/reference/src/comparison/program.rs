@@ -10,7 +10,7 @@ use std::time::Duration;
 
 use crate::programs::Streams;
 
-/// Far above what a script needs, even under an emulator on a busy machine.
+/// Far above what a script needs, even on a busy machine.
 const TIME_LIMIT: Duration = Duration::from_secs(300);
 /// Far above the transcript of any script sent here, which is below 5 MB. (Seconds
 /// that are all full could come to more, but no script has so many of them.)

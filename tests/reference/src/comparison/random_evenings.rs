@@ -16,7 +16,7 @@ const REPORT_ROOM: u16 = SMALLEST_REPORT_ROOM as u16;
 const FEW: [usize; 8] = [0, 1, 2, 3, 5, 9, 16, 30];
 const MANY: [usize; 3] = [60, 150, 300];
 /// How many seconds pass behind the last evening, and for each macro that is started there.
-/// Under an emulator seconds take longer than anything else that is sent.
+/// Seconds take longer than anything else that is sent.
 const SECONDS: [u16; 5] = [0, 1, 5, 30, 100];
 const FEW_SECONDS: [u16; 3] = [1, 2, 5];
 
