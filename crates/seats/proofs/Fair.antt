@@ -22,7 +22,7 @@ before last w = (w + 3 - last) % 4
 apart : (qs : List Queue) (w n : ℕ) → waits qs w ≡ true → waits qs n ≡ false → w ≡ n → ⊥
 apart qs w n here gone same = false≢true (sym gone ∙ rw (← same) here)
 
-next_first : (qs : List Queue) (last w : ℕ) → last < 4 → w < 4 → waits qs w ≡ true
+pub next_first : (qs : List Queue) (last w : ℕ) → last < 4 → w < 4 → waits qs w ≡ true
     → (next_after qs last < 4) × (before last (next_after qs last) ≤ before last w)
 unfolding next_after
 next_first qs last w l h here =

@@ -48,7 +48,7 @@ pub short : (q : Queue) → GoodQueue q → q.count ≤ 32
 unfolding queue_holds
 short q good = leb-true q.count 32 (both (leb q.count 32) (all_pass (waiting q)) good.holds).0
 
-all_pass_lem : (q : Queue) → GoodQueue q → all_pass (waiting q) ≡ true
+pub all_pass_lem : (q : Queue) → GoodQueue q → all_pass (waiting q) ≡ true
 unfolding queue_holds
 all_pass_lem q good = (both (leb q.count 32) (all_pass (waiting q)) good.holds).1
 
@@ -63,7 +63,7 @@ all_append (x ∷ xs) ys h k =
     let parts = both (passes_args x) (all_pass xs) h in
     rw parts.0 (all_append xs ys parts.1 k)
 
-pass_parts : (x : Command) (xs : List Command) → all_pass (x ∷ xs) ≡ true → (judge_code x ≡ 0) × (all_pass xs ≡ true)
+pub pass_parts : (x : Command) (xs : List Command) → all_pass (x ∷ xs) ≡ true → (judge_code x ≡ 0) × (all_pass xs ≡ true)
 unfolding all_pass
 pass_parts x xs h =
     let parts = both (passes_args x) (all_pass xs) h in
