@@ -1,12 +1,13 @@
 -- The three demands, word for word, and under every clause of them the theorems that carry it. The theorems speak of the meanings that the promises
--- in src/ name: what `carry_out` answers is `carry_out`, `carry_out_bytes` `carry_out_bytes`, `second` `second_at`, `status` `status_at`, `free` `free_at`,
--- `housekeeping` `housekeeping_at`, `run` `run_of` with the room `room_after`, and `run_typed` `typed_of` with the room `typed_room` (specs/Carry, Second,
--- Status, Run, Typed). What can happen to a bench is a list of events: commands, seconds, runs and runs of typed lists (specs/Events). Read the
--- statements here; what they rest on is proved in Rows, Dark, Back, Sound, FreeEntries, MacroRun, Report, TypedReport, LastNumbers and LineShown, and in
--- the crates below. How many pictures come, whether a list may be run in parts, and what is left of a damaged one, which no demand asks, is in HowMany,
--- TwoEvenings and RescuedRun. What is no part of a bench has its share of demands 1 and 2 in its own crate: an index beside a list in `index`, Calls and
--- Order; lists on a memory card in `card`, RoundTrips, Passes and Order; damaged lists in `rescue`, Calls and Order; the gas valve in `valve`, Calls,
--- RoundTrip and Order. Four seats that share a bench have theirs in `seats`, Calls and Codes; and in Shared there demand 3, from the theorem below.
+-- in src/ name: what `carry_out` and `carry_out_bytes` answer are the definitions of these names, what `second` answers is `second_at`, `status`
+-- `status_at`, `free` `free_at`, `housekeeping` `housekeeping_at`, `run` `run_of` with the room `room_after`, and `run_typed` `typed_of` with the
+-- room `typed_room` (specs/Carry, Second, Status, Run, Typed). What can happen to a bench is a list of events: commands, seconds, runs and runs of
+-- typed lists (specs/Events). Read the statements here; what they rest on is proved in Rows, Dark, Back, Sound, FreeEntries, MacroRun, Report,
+-- TypedReport, LastNumbers and LineShown, and in the crates below. How many pictures come, whether a list may be run in parts, and what is left of a
+-- damaged one, which no demand asks, is in HowMany, TwoEvenings and RescuedRun. What is no part of a bench has its share of demands 1 and 2 in its
+-- own crate: an index beside a list in `index`, Calls and Order; lists on a memory card in `card`, RoundTrips, Passes and Order; damaged lists in
+-- `rescue`, Calls and Order; the gas valve in `valve`, Calls, RoundTrip and Order. Four seats that share a bench have theirs in `seats`, Calls and
+-- Codes; and in Shared there demand 3, from the theorem below.
 use Prim.Native.Nat.{ℕ, ◌+◌, ◌*◌, ◌-◌, ◌≤◌, ◌<◌}
 use mathlib.Core.Path.{◌≡◌, refl, sym, ◌∙◌}
 use mathlib.Core.Logic.{◌↔◌, ◌≢◌}
