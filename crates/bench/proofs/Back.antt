@@ -7,7 +7,7 @@ use lib.ListN.{length, take, drop}
 use lib.Dec.{eqb}
 use Rattle.words.proofs.Front.{Bytes}
 use Rattle.wire.specs.declared.kinds.Command.{Command}
-use Rattle.wire.specs.declared.decoding.Reading.{Reading}
+use Rattle.std.specs.Prelude.{Ok}
 use Rattle.wire.specs.Judge.{plain}
 use Rattle.wire.specs.Read.{Answer, answer_of, length_of, read_code, read_of, said}
 use Rattle.wire.specs.Write.{wrote_at, room_after}
@@ -19,7 +19,7 @@ use Rattle.frame.proofs.Answers.{taken_as}
 use Rattle.frame.proofs.Calls as frames
 
 -- A reading that took a command found no row due, and took the command that the bytes say.
-pub command_read : (s : List ℕ) (c : Command) → read_of s ≡ answer_of (Reading.Taken c) → (read_code s ≡ 0) × (said s ≡ c)
+pub command_read : (s : List ℕ) (c : Command) → read_of s ≡ answer_of (Ok c) → (read_code s ≡ 0) × (said s ≡ c)
 unfolding read_of
 command_read s c read =
     let none : read_code s ≡ 0 = ap (λ (a : Answer). a.told.code) read in
@@ -28,7 +28,7 @@ command_read s c read =
     (none, cc)
 
 -- Written again it fills its 4L bytes with those that it was read from, and touches no other.
-pub command_again : (s : List ℕ) → Bytes s → (c : Command) → read_of s ≡ answer_of (Reading.Taken c) → (room : List ℕ) → length_of s * 4 ≤ length room
+pub command_again : (s : List ℕ) → Bytes s → (c : Command) → read_of s ≡ answer_of (Ok c) → (room : List ℕ) → length_of s * 4 ≤ length room
     → (wrote_at c room ≡ record { told = plain 0; bytes = length_of s * 4 })
     × (room_after c room ≡ take (length_of s * 4) s ++ drop (length_of s * 4) room)
 command_again s bytes c read room enough =

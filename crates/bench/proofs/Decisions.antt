@@ -10,7 +10,7 @@ use Rattle.words.proofs.FirstOf.{first_append}
 use Rattle.wire.specs.declared.kinds.Command.{Command}
 use Rattle.wire.specs.declared.judging.Refusal.{Refusal}
 use Rattle.wire.specs.declared.judging.Told.{Told}
-use Rattle.wire.specs.declared.decoding.Reading.{Reading}
+use Rattle.std.specs.Prelude.{Ok, Err}
 use Rattle.wire.specs.Judge.{plain, told_of, told_for, arg_checks, judge_code, judged}
 use Rattle.wire.specs.Read.{Answer, answer_of, answer_for, read_code, read_of, read_checks, said_parts, said}
 use Rattle.wire.specs.Kind.{parts_of}
@@ -63,7 +63,7 @@ module _ (power : Bool) (t : Tally) (c : Command) where
     unfolding permitted_by
     denied d e = denial_none c d ∙ ap (λ n. permitted_with n c) (e ∙ sym by_tally)
 
-    pub granted : told_permit Permit.Granted ≡ tally_code t c → answer_of (Reading.Taken c) ≡ permitted_by power t c
+    pub granted : told_permit Permit.Granted ≡ tally_code t c → answer_of (Ok c) ≡ permitted_by power t c
     unfolding permitted_by
     granted e = ap (λ n. permitted_with n c) (e ∙ sym by_tally)
 
@@ -101,7 +101,7 @@ module _ (power : Bool) (t : Tally) where
       behind_for (parts_of c.kind) c ∙ ap (λ n. answer_for n (parts_of c.kind) c) (sym code)
 
   -- The command at the front of some bytes: refused by 1 to 10, or what those rows say of the command that was read.
-  pub read_refused : (s : List ℕ) (r : Refusal) → answer_of (Reading.Refused r) ≡ read_of s → none (told_of r) ≡ decided_in power t s
+  pub read_refused : (s : List ℕ) (r : Refusal) → answer_of (Err r) ≡ read_of s → none (told_of r) ≡ decided_in power t s
   unfolding decided_in read_of
   read_refused s r e =
       let told : told_of r ≡ told_for (read_code s) (said_parts s) = ap (λ (a : Answer). a.told) e in
@@ -109,7 +109,7 @@ module _ (power : Bool) (t : Tally) where
       let code : first_of (read_checks s ++ behind_checks power t (said s)) ≡ read_code s = rw (read_first s, other) in
       misread (said_parts s) (said s) (read_code s) r told ∙ ap (λ n. answer_for n (said_parts s) (said s)) (sym code)
 
-  pub read_passed : (s : List ℕ) (c : Command) → answer_of (Reading.Taken c) ≡ read_of s → permitted_by power t c ≡ decided_in power t s
+  pub read_passed : (s : List ℕ) (c : Command) → answer_of (Ok c) ≡ read_of s → permitted_by power t c ≡ decided_in power t s
   unfolding decided_in read_of permitted_by
   read_passed s c e =
       let zero : read_code s ≡ 0 = sym (ap (λ (a : Answer). a.told.code) e) in

@@ -23,7 +23,7 @@ use Rattle.words.proofs.Order.{NoneDue, Order, InOrder}
 use Rattle.words.proofs.Front.{Bytes}
 use Rattle.wire.specs.declared.kinds.Kind.{Kind}
 use Rattle.wire.specs.declared.kinds.Command.{Command}
-use Rattle.wire.specs.declared.decoding.Reading.{Reading}
+use Rattle.std.specs.Prelude.{Ok}
 use Rattle.wire.specs.Judge.{no_stray, plain, judge_code}
 use Rattle.wire.specs.Read.{length_of, answer_of, read_checks, read_of, said_parts, said}
 use Rattle.wire.specs.Write as writing
@@ -398,12 +398,12 @@ shown_are_judged kit pupil kit_short pupil_short b sound sender k =
 -- A command that was written is read back from the room, whatever stands behind it. (`Held`, `Bytes`: numbers within their widths, as every
 -- program's are.)
 pub demand_2_command_back : (c : Command) → Held c → (room : List ℕ) → (writing.wrote_at c room).told.code ≡ 0
-    → read_of (writing.room_after c room) ≡ answer_of (Reading.Taken c)
+    → read_of (writing.room_after c room) ≡ answer_of (Ok c)
 unfolding writing.wrote_at
 demand_2_command_back c held room done = commands.write_then_read c held room done
 
 -- A command that was read is written as the 4L bytes that it was read from, into any room that has so many, and the rest of the room stays.
-pub demand_2_command_again : (s : List ℕ) → Bytes s → (c : Command) → read_of s ≡ answer_of (Reading.Taken c)
+pub demand_2_command_again : (s : List ℕ) → Bytes s → (c : Command) → read_of s ≡ answer_of (Ok c)
     → (room : List ℕ) → length_of s * 4 ≤ length room
     → (writing.wrote_at c room ≡ record { told = plain 0; bytes = length_of s * 4 })
     × (writing.room_after c room ≡ take (length_of s * 4) s ++ drop (length_of s * 4) room)
@@ -563,7 +563,7 @@ pub demand_3_command : (b : Bench) → Reached b → b.store.running ≡ 255 →
 demand_3_command b r free m closed = rw (run_accepted b (reached_sound b r) free m closed) (started b r free m closed)
 
 pub demand_3_bytes : (b : Bench) → Reached b → b.store.running ≡ 255 → (m : ℕ) → is_closed b.store m ≡ true
-    → (s : List ℕ) → read_of s ≡ answer_of (Reading.Taken (run_command m)) → Started m (written_out b.store m) (carry_out_bytes b s)
+    → (s : List ℕ) → read_of s ≡ answer_of (Ok (run_command m)) → Started m (written_out b.store m) (carry_out_bytes b s)
 demand_3_bytes b r free m closed s read = rw (run_accepted_bytes b (reached_sound b r) free m closed s read) (started b r free m closed)
 
 -- A RUN m that stands in a list of a run, raw or typed, behind the commands `before` and in front of `behind`, starts m just so: what is demanded
@@ -571,7 +571,7 @@ demand_3_bytes b r free m closed s read = rw (run_accepted_bytes b (reached_soun
 pub demand_3_run : (b : Bench) → Reached b → (kit pupil room : List ℕ) → (run_of b kit pupil room).code ≡ 0
     → (before : List (List ℕ)) (s : List ℕ) (behind : List (List ℕ)) → rests kit ++ rests pupil ≡ before ++ (s ∷ behind)
     → let there = left_by b before in there.store.running ≡ 255 → (m : ℕ) → is_closed there.store m ≡ true
-    → read_of s ≡ answer_of (Reading.Taken (run_command m)) → takes_any is_stop (taken there s).bench behind ≡ false
+    → read_of s ≡ answer_of (Ok (run_command m)) → takes_any is_stop (taken there s).bench behind ≡ false
     → Demand3 m (written_out there.store m) (run_of b kit pupil room).bench
 demand_3_run b r kit pupil room carried before s behind stands free m closed read none =
     let good = reached_sound b r in
@@ -585,7 +585,7 @@ demand_3_run b r kit pupil room carried before s behind stands free m closed rea
 pub demand_3_typed : (b : Bench) → Reached b → (kit text room : List ℕ) → (typed_of b kit text room).found.told.code ≡ 0
     → (before : List (List ℕ)) (s : List ℕ) (behind : List (List ℕ)) → rests kit ++ rests (bytes_in text) ≡ before ++ (s ∷ behind)
     → let there = left_by b before in there.store.running ≡ 255 → (m : ℕ) → is_closed there.store m ≡ true
-    → read_of s ≡ answer_of (Reading.Taken (run_command m)) → takes_any is_stop (taken there s).bench behind ≡ false
+    → read_of s ≡ answer_of (Ok (run_command m)) → takes_any is_stop (taken there s).bench behind ≡ false
     → Demand3 m (written_out there.store m) (typed_of b kit text room).bench
 demand_3_typed b r kit text room carried before s behind stands free m closed read none =
     let good = reached_sound b r in

@@ -15,7 +15,8 @@ use Rattle.words.specs.Codes.{Check, ◌when◌, first_of}
 use Rattle.words.proofs.Laws.{with_room}
 use Rattle.words.proofs.Order.{lacks, code_lacked}
 use Rattle.words.proofs.Tests as tests
-use Rattle.wire.specs.declared.table.Found.{Found}
+use Rattle.wire.specs.declared.table.Form.{Form}
+use Rattle.std.specs.Prelude.{Option, Some, None}
 use Rattle.wire.specs.Table.{rule_of}
 use Rattle.wire.specs.declared.judging.Told.{Told}
 use Rattle.wire.specs.Read.{opcode_of, flag_of, length_of, third_word, sum_differs, decode_checks, whole_checks, reach_code, said}
@@ -151,12 +152,12 @@ lacks_all cs = lacks 1 cs && (lacks 2 cs && lacks 3 cs)
 other_codes : (b : Bench) (s : List ℕ) → lacks_all (whole_checks s (length_of s) ++ state_checks b (said s)) ≡ true
 other_codes b s = go (rule_of (opcode_of s))
   where
-    rows : Found → List Check
+    rows : Option (Form × ℕ) → List Check
     rows found = 4 when sum_differs s (length_of s) ∷ decode_checks found (flag_of s) (length_of s) (word_at s 4) (third_word s (length_of s))
 
-    go : (found : Found) → lacks_all (rows found ++ state_checks b (said s)) ≡ true
-    go (Found.Known form length) = refl
-    go Found.Unknown = refl
+    go : (found : Option (Form × ℕ)) → lacks_all (rows found ++ state_checks b (said s)) ≡ true
+    go (Some (form, length)) = refl
+    go None = refl
 
 no_end : (cs : List Check) → lacks_all cs ≡ true → ends_list (first_of cs) ≡ false
 no_end cs all =

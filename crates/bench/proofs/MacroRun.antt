@@ -10,7 +10,7 @@ use borrow.Author.Tests.{ltb-true, ltb-false, le-ltb, le-leb, eq-eqb}
 use Rattle.words.proofs.Tests.{neither}
 use Rattle.wire.specs.declared.kinds.Kind.{Kind}
 use Rattle.wire.specs.declared.kinds.Command.{Command}
-use Rattle.wire.specs.declared.decoding.Reading.{Reading}
+use Rattle.std.specs.Prelude.{Ok}
 use Rattle.wire.specs.Judge.{plain, judge_code}
 use Rattle.wire.specs.Read.{answer_of, read_of, said_parts, said}
 use Rattle.wire.specs.Kind.{parts_of}
@@ -173,7 +173,7 @@ module _ (b : Bench) (good : GoodBench b) (free : Idle b) (m : ℕ) (closed : is
       let code : carry_code b (run_command m) ≡ 0 = rw (carry_code_lem b (run_command m) good.sound, run_judged) run_behind in
       ap (λ n. outcome_for n (parts_of (Kind.Run m)) b (run_command m)) code
 
-  pub run_accepted_bytes : (s : List ℕ) → read_of s ≡ answer_of (Reading.Taken (run_command m)) → carry_out_bytes b s ≡ begun
+  pub run_accepted_bytes : (s : List ℕ) → read_of s ≡ answer_of (Ok (run_command m)) → carry_out_bytes b s ≡ begun
   unfolding carry_out_bytes
   run_accepted_bytes s read =
       let says = command_read s (run_command m) read in
@@ -188,7 +188,7 @@ module _ (b : Bench) (good : GoodBench b) (before : List (List ℕ)) (s : List �
   abbrev there : Bench
   there = left_by b before
 
-  pub run_begins_within : (free : Idle there) (m : ℕ) (closed : is_closed there.store m ≡ true) → read_of s ≡ answer_of (Reading.Taken (run_command m))
+  pub run_begins_within : (free : Idle there) (m : ℕ) (closed : is_closed there.store m ≡ true) → read_of s ≡ answer_of (Ok (run_command m))
       → takes_any is_stop (taken there s).bench behind ≡ false
       → (rs : List (List ℕ)) → rs ≡ before ++ (s ∷ behind) → (left : Bench) (latest : Latest) → left ≡ noting (left_by b rs) latest
       → Runs m (written_out there.store m) 0 left

@@ -11,7 +11,8 @@ use Rattle.words.specs.BigEndian.{word_at}
 use Rattle.words.proofs.Tests.{both}
 use Rattle.words.proofs.FirstOf.{Coded, first_append}
 use Rattle.wire.specs.declared.kinds.Command.{Command}
-use Rattle.wire.specs.declared.table.Found.{Found}
+use Rattle.wire.specs.declared.table.Form.{Form}
+use Rattle.std.specs.Prelude.{Option, Some, None}
 use Rattle.wire.specs.declared.judging.Told.{Told}
 use Rattle.wire.specs.Table.{rule_of}
 use Rattle.wire.specs.Kind.{parts_of}
@@ -30,9 +31,9 @@ abbrev pub left : Told → Bench → Outcome
 left told b = record { told = told; bench = b }
 
 -- No row of reading or judging has code 0.
-decode_coded : (found : Found) (flag : Bool) (words one two : ℕ) → Coded (decode_checks found flag words one two)
-decode_coded Found.Unknown flag words one two = (omega arith, tt)
-decode_coded (Found.Known form n) flag words one two =
+decode_coded : (found : Option (Form × ℕ)) (flag : Bool) (words one two : ℕ) → Coded (decode_checks found flag words one two)
+decode_coded None flag words one two = (omega arith, tt)
+decode_coded (Some (form, n)) flag words one two =
     (omega arith, (omega arith, (omega arith, (omega arith, (omega arith, (omega arith, tt))))))
 
 pub judge_coded : (c : Command) → Coded (arg_checks c)

@@ -8,7 +8,7 @@ use lib.Dec.{eqb}
 use borrow.Author.Tests.{eqb-true}
 use Rattle.words.specs.Codes.{first_of}
 use Rattle.wire.specs.declared.kinds.Command.{Command}
-use Rattle.wire.specs.declared.decoding.Reading.{Reading}
+use Rattle.std.specs.Prelude.{Ok}
 use Rattle.wire.specs.Read.{Answer, answer_of, answer_for, read_code, read_of, said_parts, said}
 use Rattle.wire.specs.Judge.{plain}
 use Rattle.walk.proofs.Shows.{first, own_read}
@@ -39,7 +39,7 @@ by_reading b s = go (eqb (read_code s) 0) refl
     go : (none : Bool) → eqb (read_code s) 0 ≡ none → taken b s ≡ on_reading b (read_of s)
     go true is =
         let zero = eqb-true (read_code s) 0 is in
-        let was : read_of s ≡ answer_of (Reading.Taken (said s)) = ap (λ n. answer_for n (said_parts s) (said s)) zero in
+        let was : read_of s ≡ answer_of (Ok (said s)) = ap (λ n. answer_for n (said_parts s) (said s)) zero in
         sym (read_passed b s zero) ∙ ap (on_reading b) (sym was)
     go false is =
         let code : first_of (bytes_checks b s) ≡ read_code s = rw (read_then b s, is) in rw (code, is)

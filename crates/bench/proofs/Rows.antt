@@ -13,7 +13,8 @@ use Rattle.words.specs.BigEndian.{word_at, has_room}
 use Rattle.words.specs.Codes.{Check, ◌when◌, first_of}
 use Rattle.words.proofs.Tests.{both}
 use Rattle.words.proofs.Order.{NoneDue, Order, code_lacked, order, apart}
-use Rattle.wire.specs.declared.table.Found.{Found}
+use Rattle.wire.specs.declared.table.Form.{Form}
+use Rattle.std.specs.Prelude.{Option, Some, None}
 use Rattle.wire.specs.declared.kinds.Command.{Command}
 use Rattle.wire.specs.Table.{rule_of}
 use Rattle.wire.specs.Judge.{plain, arg_checks}
@@ -60,26 +61,26 @@ up_to n (c ∷ cs) = leb c.code n && up_to n cs
 bytes_apart : (b : Bench) (s : List ℕ) → (apart (bytes_checks b s) ≡ true) × (up_to 26 (bytes_checks b s) ≡ true)
 bytes_apart b s = go (rule_of (opcode_of s))
   where
-    whole : Found → List Check
+    whole : Option (Form × ℕ) → List Check
     whole found = 4 when sum_differs s (length_of s) ∷ decode_checks found (flag_of s) (length_of s) (word_at s 4) (third_word s (length_of s))
 
-    all : Found → List Check
+    all : Option (Form × ℕ) → List Check
     all found = (reach_checks s ++ whole found) ++ state_checks b (said s)
 
-    go : (found : Found) → (apart (all found) ≡ true) × (up_to 26 (all found) ≡ true)
-    go (Found.Known form length) = (refl, refl)
-    go Found.Unknown = (refl, refl)
+    go : (found : Option (Form × ℕ)) → (apart (all found) ≡ true) × (up_to 26 (all found) ≡ true)
+    go (Some (form, length)) = (refl, refl)
+    go None = (refl, refl)
 
 -- The same of the rows of reading alone, none of which is above 10.
 pub read_apart : (s : List ℕ) → (apart (read_checks s) ≡ true) × (up_to 10 (read_checks s) ≡ true)
 read_apart s = go (rule_of (opcode_of s))
   where
-    all : Found → List Check
+    all : Option (Form × ℕ) → List Check
     all found = reach_checks s ++ (4 when sum_differs s (length_of s) ∷ decode_checks found (flag_of s) (length_of s) (word_at s 4) (third_word s (length_of s)))
 
-    go : (found : Found) → (apart (all found) ≡ true) × (up_to 10 (all found) ≡ true)
-    go (Found.Known form length) = (refl, refl)
-    go Found.Unknown = (refl, refl)
+    go : (found : Option (Form × ℕ)) → (apart (all found) ≡ true) × (up_to 10 (all found) ≡ true)
+    go (Some (form, length)) = (refl, refl)
+    go None = (refl, refl)
 
 pub command_order : (b : Bench) → bench_sound b ≡ true → (c : Command) → Order (command_checks b c) (carry_out b c).told.code
 command_order b sound c = subst (Order (command_checks b c)) (sym (command_code b c sound)) (order (command_checks b c) refl)

@@ -1,6 +1,6 @@
 -- 02, Q-1, for a moderator to read: what the run of a typed list leaves. It is the run of the list that the text says, but for the numbers of the
 -- pupil's records: record k + 1 of the pupil carries the number of the line that says command k + 1. Places k count from 0.
-use Prim.Native.Nat.{ℕ, zero, suc, ◌+◌, ◌*◌, ◌-◌, ◌≤◌, ◌<◌}
+use Prim.Native.Nat.{ℕ, zero, suc, ◌+◌, ◌*◌, ◌≤◌, ◌<◌}
 use mathlib.Core.Path.{◌≡◌, refl, sym, ap, ◌∙◌}
 use mathlib.Core.Logic.{◌≢◌}
 use mathlib.Core.List.{List, [], ◌∷◌, ◌++◌}

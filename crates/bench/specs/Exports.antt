@@ -7,8 +7,6 @@ pub use Rattle.wire.specs.declared.kinds.Command.{Command}
 pub use Rattle.wire.specs.declared.kinds.Parts.{Parts}
 pub use Rattle.wire.specs.declared.judging.Refusal.{Refusal}
 pub use Rattle.wire.specs.declared.judging.Told.{Told}
-pub use Rattle.wire.specs.declared.judging.Judged.{Judged}
-pub use Rattle.wire.specs.declared.decoding.Reading.{Reading}
 pub use Rattle.wire.specs.Judge.{no_stray, plain, told_of, told_for, told_judged, judge_code, judged}
 pub use Rattle.wire.specs.Read.{Answer, answer_of, answer_for, said_parts, said, read_checks, span_of}
 unfoldable pub use Rattle.wire.specs.Read.{read_code, read_of}

@@ -6,7 +6,7 @@ ghost use Rattle.bench.specs.Steps.{decision_of, permitted_by, decided_by, decid
 
 use super::{Verdict, told_of};
 use store::{Permit, Tally};
-use wire::{Command, Judged, Reading, Told};
+use wire::{Command, Told};
 
 #[derive(Clone, Copy)]
 pub enum Decision {
@@ -18,7 +18,7 @@ pub enum Decision {
 fn put_told(room: &mut [u8], sender: u8, told: Told, number: u32)
     ensures { room.new ≡ written (record_of sender told number) room.old }
 {
-    report::put_record(
+    let _ = report::put_record(
         room,
         sender,
         told.code,
@@ -58,8 +58,8 @@ pub fn decide(power: bool, tally: Tally, command: Command) -> Decision
     ensures { decision_of result ≡ decided_by power tally command }
 {
     match wire::judge(command) {
-        Judged::Refused(refusal) => Decision::Refused(Verdict::Misread(refusal)),
-        Judged::Allowed => permitted(power, tally, command),
+        Err(refusal) => Decision::Refused(Verdict::Misread(refusal)),
+        Ok(()) => permitted(power, tally, command),
     }
 }
 
@@ -68,7 +68,7 @@ pub fn decide_bytes(power: bool, tally: Tally, bytes: &[u8]) -> Decision
     ensures { decision_of result ≡ decided_in power tally bytes.now }
 {
     match wire::read_command(bytes) {
-        Reading::Refused(refusal) => Decision::Refused(Verdict::Misread(refusal)),
-        Reading::Taken(command) => permitted(power, tally, command),
+        Err(refusal) => Decision::Refused(Verdict::Misread(refusal)),
+        Ok(command) => permitted(power, tally, command),
     }
 }

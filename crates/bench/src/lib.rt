@@ -25,7 +25,7 @@ use report::Latest;
 pub use report::put_record;
 pub use store::Group;
 use store::{Denial, Store, Survey, Tally};
-pub use wire::{Command, Judged, Kind, Reading, Refusal, Told, judge, plain, read_command, span};
+pub use wire::{Command, Kind, Refusal, Told, judge, plain, read_command, span};
 
 // The code of a picture that is asked for with the power off.
 const DARK: u8 = 26;

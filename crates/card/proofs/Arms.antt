@@ -11,7 +11,7 @@ use Rattle.words.specs.Codes.{◌when◌, first_of}
 use Rattle.wire.specs.declared.table.Form.{Form}
 use Rattle.wire.specs.declared.table.Layout.{Layout}
 use Rattle.wire.specs.declared.table.Row.{Row}
-use Rattle.wire.specs.declared.table.Found.{Found}
+use Rattle.std.specs.Prelude.{Option, None}
 use Rattle.wire.specs.declared.kinds.Kind.{Kind}
 use Rattle.wire.specs.declared.kinds.Command.{Command}
 use Rattle.wire.specs.declared.kinds.Parts.{Parts}
@@ -154,7 +154,7 @@ module _ (s : List ℕ) (at : ℕ) (n : Number) (is_n : got_number n ≡ number_
   unfolding command_at
   opcode_arm k e = then_is (number_at s at) n k behind_number is_n e
 
-  pub found_arm : (v next : ℕ) → n ≡ Number.Taken v next → (found : Found) → found ≡ rule_of v → (k : Found) → found ≡ k → found_at s next k ≡ command_at s at
+  pub found_arm : (v next : ℕ) → n ≡ Number.Taken v next → (found : Option (Form × ℕ)) → found ≡ rule_of v → (k : Option (Form × ℕ)) → found ≡ k → found_at s next k ≡ command_at s at
   found_arm v next e found is k f = ap (found_at s next) (sym f ∙ is) ∙ opcode_arm (Number.Taken v next) e
 
 -- The first two numbers of a list.
@@ -177,7 +177,7 @@ unfolding count_at
 count_arm s n is_n k e = then_is (first_at s) n k (λ first next. number_at s next) is_n e
 
 -- An opcode of more than 16 bits is not in the table.
-pub rule_none : (opcode : ℕ) → 65535 < opcode → Found.Unknown ≡ rule_of opcode
+pub rule_none : (opcode : ℕ) → 65535 < opcode → None ≡ rule_of opcode
 rule_none opcode h =
     simp (
       ne_eqb opcode 0x0114 (λ e. omega arith),

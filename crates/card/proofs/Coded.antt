@@ -9,7 +9,7 @@ use lib.ListN.{drop}
 use lib.Dec.{ltb, eqb}
 use borrow.Author.Tests.{eqb-false}
 use Rattle.words.specs.Codes.{Check, ◌when◌, first_of}
-use Rattle.wire.specs.declared.table.Found.{Found}
+use Rattle.std.specs.Prelude.{Option, Some, None}
 use Rattle.wire.specs.declared.table.Form.{Form}
 use Rattle.wire.specs.declared.table.Layout.{Layout}
 use Rattle.wire.specs.declared.kinds.Command.{Command}
@@ -77,9 +77,9 @@ command_coded : (s : List ℕ) (at : ℕ) → Coded (command_at s at)
 unfolding command_at behind_opcode flag_at
 command_coded s at = then_coded (number_at s at) _ (number_coded s at) (λ opcode next. found next (rule_of opcode))
   where
-    found : (next : ℕ) (rule : Found) → Coded (found_at s next rule)
-    found next Found.Unknown = λ e. omega arith
-    found next (Found.Known form words) =
+    found : (next : ℕ) (rule : Option (Form × ℕ)) → Coded (found_at s next rule)
+    found next None = λ e. omega arith
+    found next (Some (form, words)) =
         then_coded (flag_at s next) _ (then_coded (number_at s next) _ (number_coded s next)
         (λ flag end. passing_coded (38 when ltb 1 flag ∷ []) (got flag end) tt))
         (λ flag place. then_coded (arguments_at s place form) _ (arguments_coded s place form) (λ parts end. flagged_coded flag parts end))

@@ -16,7 +16,7 @@ use Rattle.words.proofs.Tests.{both}
 use Rattle.wire.specs.declared.table.Form.{Form}
 use Rattle.wire.specs.declared.table.Layout.{Layout}
 use Rattle.wire.specs.declared.table.Row.{Row}
-use Rattle.wire.specs.declared.table.Found.{Found}
+use Rattle.std.specs.Prelude.{Option, Some, None}
 use Rattle.wire.specs.declared.kinds.Command.{Command}
 use Rattle.wire.specs.declared.kinds.Parts.{Parts}
 use Rattle.wire.specs.Table.{row_of, rule_of, arguments_of}
@@ -417,7 +417,7 @@ bit_back v h = go (eqb v 1) refl
 
 module _ (s : List ℕ) (bytes : Bytes s) (at : ℕ) (c : Command) (end : ℕ) where
   -- From the opcode's form on.
-  known_taken : (form : Form) (words opcode next : ℕ) → number_at s at ≡ got opcode next → rule_of opcode ≡ Found.Known form words
+  known_taken : (form : Form) (words opcode next : ℕ) → number_at s at ≡ got opcode next → rule_of opcode ≡ Some (form, words)
       → behind_opcode s next form ≡ got c end → TakenCommand s at c end
   unfolding behind_opcode flag_at flagged stored_command
   known_taken form words opcode next is known e =
@@ -469,7 +469,7 @@ module _ (s : List ℕ) (bytes : Bytes s) (at : ℕ) (c : Command) (end : ℕ) w
       let h = had (number_at s at) (λ opcode next. found_at s next (rule_of opcode)) c end e in
       go (rule_of h.value) h.value h.place h.is refl h.led
     where
-      go : (found : Found) (opcode next : ℕ) → number_at s at ≡ got opcode next → rule_of opcode ≡ found → found_at s next found ≡ got c end
+      go : (found : Option (Form × ℕ)) (opcode next : ℕ) → number_at s at ≡ got opcode next → rule_of opcode ≡ found → found_at s next found ≡ got c end
           → TakenCommand s at c end
-      go Found.Unknown opcode next is which e = absurd (not_refused (plain 5) c end e)
-      go (Found.Known form words) opcode next is which e = known_taken form words opcode next is which e
+      go None opcode next is which e = absurd (not_refused (plain 5) c end e)
+      go (Some (form, words)) opcode next is which e = known_taken form words opcode next is which e

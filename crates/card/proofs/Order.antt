@@ -7,7 +7,7 @@ use lib.Dec.{eqb}
 use Rattle.words.specs.Codes.{first_of}
 use Rattle.words.proofs.Order.{Order, order}
 use Rattle.wire.specs.declared.table.Form.{Form}
-use Rattle.wire.specs.declared.table.Found.{Found}
+use Rattle.std.specs.Prelude.{Some, None}
 use Rattle.wire.specs.declared.kinds.Command.{Command}
 use Rattle.wire.specs.declared.kinds.Parts.{Parts}
 use Rattle.wire.specs.declared.judging.Told.{Told}
@@ -34,11 +34,11 @@ module _ (s : List ℕ) (at : ℕ) where
   opcode_first told e = rw e
 
   module _ (opcode next : ℕ) (is : number_at s at ≡ got opcode next) where
-    pub opcode_unknown : rule_of opcode ≡ Found.Unknown → command_at s at ≡ refused (plain 5)
+    pub opcode_unknown : rule_of opcode ≡ None → command_at s at ≡ refused (plain 5)
     unfolding command_at
     opcode_unknown e = ap (λ x. and_then x (λ v p. found_at s p (rule_of v))) is ∙ ap (found_at s next) e
 
-    module _ (form : Form) (words : ℕ) (known : rule_of opcode ≡ Found.Known form words) where
+    module _ (form : Form) (words : ℕ) (known : rule_of opcode ≡ Some (form, words)) where
       opcode_known : command_at s at ≡ behind_opcode s next form
       unfolding command_at
       opcode_known = ap (λ x. and_then x (λ v p. found_at s p (rule_of v))) is ∙ ap (found_at s next) known

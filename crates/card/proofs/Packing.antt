@@ -1,12 +1,12 @@
 -- Behind the functions that write a stored list: a command's numbers one behind the other, the commands turn by turn, the whole list.
-use Prim.Native.Nat.{ℕ, ◌+◌, ◌-◌, ◌≤◌, ◌<◌}
+use Prim.Native.Nat.{ℕ, ◌+◌, ◌≤◌, ◌<◌}
 use mathlib.Core.Path.{◌≡◌, refl, sym, ap, subst, ◌∙◌}
 use mathlib.Core.List.{List, [], ◌∷◌, ◌++◌, append_assoc, append-nil}
 use mathlib.Core.Bool.{cond}
 use native.Mathlib.Omega.{arith}
 use native.Mathlib.Numerals.{add-one}
-use lib.ListN.{length, take, drop, length-append, length-drop, drop_of_length-le}
-use lib.Seq.{sets, length-sets, length-take-le, drop-drop}
+use lib.ListN.{length, take, drop, length-append, length-drop}
+use lib.Seq.{sets, length-sets, length-take-le}
 use lib.Dec.{ltb}
 use borrow.Author.Tests.{le-leb, lt-leb, lt-ltb, le-ltb}
 use Rattle.words.proofs.Front.{Bytes}
@@ -17,16 +17,15 @@ use Rattle.wire.specs.declared.kinds.Command.{Command}
 use Rattle.wire.specs.declared.kinds.Parts.{Parts}
 use Rattle.wire.specs.declared.judging.Told.{Told}
 use Rattle.wire.specs.declared.judging.Refusal.{Refusal}
-use Rattle.wire.specs.declared.decoding.Reading.{Reading}
+use Rattle.std.specs.Prelude.{Result as Wired, Ok, Err}
 use Rattle.wire.specs.Table.{row_of, arguments_of}
 use Rattle.wire.specs.Kind.{parts_of}
 use Rattle.wire.specs.Judge.{plain, told_of}
 use Rattle.wire.specs.Read.{answer_of, read_of, span_of}
 use Rattle.wire.specs.Write.{flag_bit}
 use Rattle.walk.specs.Walk.{rests}
-use Rattle.walk.proofs.Spans.{span_within}
-use Rattle.walk.proofs.Rests.{rests_more, rests_none}
-use Rattle.walk.proofs.Turns.{from_place, CommandAt}
+use Rattle.walk.proofs.Spans.{span_within, span_some}
+use Rattle.walk.proofs.Turns.{Turn, turn}
 use Rattle.card.specs.declared.answers.Fault.{Fault}
 use Rattle.card.specs.declared.answers.Moved.{Moved}
 use Rattle.card.specs.declared.storing.Packed.{Packed}
@@ -97,100 +96,107 @@ pub behind-bad : (cs : List Command) (number : ℕ) (told : Told) → behind cs 
 behind-bad [] number told = refl
 behind-bad (c ∷ cs) number told = ap (onto c) (behind-bad cs number told)
 
--- The turns of `pack`: the commands before a place of the list stand in the buffer.
-pub record Packing (s buffer : List ℕ) (at pos count : ℕ) : Type 0 where
+-- The turns of `pack`: the commands before those that are left stand in the buffer.
+pub record Packing (s buffer left : List ℕ) (pos count : ℕ) : Type 0 where
   pub done : List Command
-  pub whole : raw_says s ≡ behind done (raw_from (count + 1) (rests (drop at s)))
-  pub within : at ≤ length s
+  pub whole : raw_says s ≡ behind done (raw_from (count + 1) (rests left))
+  pub bytes : Bytes left
   pub short : length s ≤ 4096
   pub counted : count ≡ length done
-  pub fewer : count ≤ at
-  pub less : pos ≤ at
+  pub fewer : count + length left ≤ length s
+  pub less : pos + length left ≤ length s
   pub size : pos ≡ length (stored_commands done)
   pub room : 4096 ≡ length buffer
   pub front : take pos buffer ≡ stored_commands done
 
-pub none_packed : (s buffer : List ℕ) → length s ≤ 4096 → 4096 ≡ length buffer → Packing s buffer 0 0 0
+pub none_packed : (s buffer left : List ℕ) → Bytes s → left ≡ s → length s ≤ 4096 → 4096 ≡ length buffer → Packing s buffer left 0 0
 unfolding stored_commands raw_says
-none_packed s buffer short room =
+none_packed s buffer left bytes is short room =
     record {
       done = [];
-      whole = refl;
-      within = omega arith;
+      whole = ap (λ l. raw_from 1 (rests l)) (sym is);
+      bytes = rw is bytes;
       short = short;
       counted = refl;
-      fewer = omega arith;
-      less = omega arith;
+      fewer = omega (arith, ap length is);
+      less = omega (arith, ap length is);
       size = refl;
       room = room;
       front = refl;
     }
 
-module _ (s buffer : List ℕ) (at pos count : ℕ) (so_far : Packing s buffer at pos count) where
-  module _ (n : ℕ) (here : CommandAt s at n) (more : at < length s) (r : Reading) (is_r : answer_of r ≡ read_of (take (length s - at) (drop at s))) where
-    read : answer_of r ≡ read_of (drop at s)
-    read = is_r ∙ ap read_of (from_place s at)
+module _ (s buffer left : List ℕ) (pos count : ℕ) (so_far : Packing s buffer left pos count) where
+  module _ (x later : List ℕ) (one : rests left ≡ x ∷ rests later) (r : Wired Command Refusal) (is_r : answer_of r ≡ read_of x) where
+    passed : Turn left x later
+    passed = turn left x later one
 
-    step : raw_from (count + 1) (rests (drop at s)) ≡ raw_next (answer_of r) (count + 1) (raw_from (count + 1 + 1) (rests (drop (at + n) s)))
+    fewer_left : length later + span_of left ≡ length left
+    fewer_left = omega (arith, ap length passed.then, length-drop (span_of left) left, span_within left)
+
+    pub count_fits : count + 1 + length later ≤ length s
+    count_fits = omega (arith, so_far.fewer, fewer_left, span_some left passed.some)
+
+    step : raw_from (count + 1) (rests left) ≡ raw_next (answer_of r) (count + 1) (raw_from (count + 1 + 1) (rests later))
     unfolding raw_from
-    step =
-        rw (rests_more (drop at s) (omega (arith, length-drop at s)), drop-drop (span_of (drop at s)) at s, ← here.own, ← read, ← add-one (count + 1))
+    step = rw (one, ← is_r, ← add-one (count + 1)) refl
 
-    pub packed_bad : (f : Refusal) → r ≡ Reading.Refused f → raw_says s ≡ bad (count + 1) (told_of f)
+    pub packed_bad : (f : Refusal) → r ≡ Err f → raw_says s ≡ bad (count + 1) (told_of f)
     packed_bad f e =
         so_far.whole
-        ∙ ap (behind so_far.done) (step ∙ ap (λ q. raw_next (answer_of q) (count + 1) (raw_from (count + 1 + 1) (rests (drop (at + n) s)))) e)
+        ∙ ap (behind so_far.done) (step ∙ ap (λ q. raw_next (answer_of q) (count + 1) (raw_from (count + 1 + 1) (rests later))) e)
         ∙ behind-bad so_far.done (count + 1) (told_of f)
 
-    module _ (bytes : Bytes s) (c : Command) (e : r ≡ Reading.Taken c) where
-      taken : RawTaken (drop at s) c
-      taken = raw_taken (drop at s) (plain 0) c [] (drop_bytes s at bytes) (sym (ap answer_of (sym e) ∙ read))
+    module _ (c : Command) (e : r ≡ Ok c) where
+      bytes : Bytes x
+      bytes = rw passed.whole so_far.bytes
 
-      no_longer : length (stored_command c) ≤ n
+      taken : RawTaken x c
+      taken = raw_taken x (plain 0) c [] bytes (sym (ap answer_of (sym e) ∙ is_r))
+
+      no_longer : length (stored_command c) ≤ span_of left
       no_longer =
           omega (
             arith,
             command_short c taken.held,
             ap length taken.same,
-            here.own,
-            length-take-le (span_of (drop at s)) (drop at s) (span_within (drop at s)),
+            ap span_of passed.whole,
+            length-take-le (span_of x) x (span_within x),
           )
 
       pub packed_fits : pos + length (stored_command c) ≤ length buffer
-      packed_fits = omega (arith, no_longer, here.ends, so_far.less, so_far.short, so_far.room)
+      packed_fits = omega (arith, no_longer, fewer_left, so_far.less, so_far.short, so_far.room)
 
       pub one_packed : (pos' : ℕ) (buffer' : List ℕ) → pos' ≡ pos + length (stored_command c) → buffer' ≡ sets buffer pos (stored_command c)
-          → Packing s buffer' (at + n) pos' (count + 1)
+          → Packing s buffer' later pos' (count + 1)
       one_packed pos' buffer' is_pos is_buffer =
           let long = ap length (stored_more so_far.done c) ∙ length-append (stored_commands so_far.done) (stored_command c) in
           record {
             done = so_far.done ++ (c ∷ []);
             whole = so_far.whole
-                ∙ ap (behind so_far.done) (step ∙ ap (λ q. raw_next (answer_of q) (count + 1) (raw_from (count + 1 + 1) (rests (drop (at + n) s)))) e)
-                ∙ sym (behind_more so_far.done c (raw_from (count + 1 + 1) (rests (drop (at + n) s))));
-            within = here.ends;
+                ∙ ap (behind so_far.done) (step ∙ ap (λ q. raw_next (answer_of q) (count + 1) (raw_from (count + 1 + 1) (rests later))) e)
+                ∙ sym (behind_more so_far.done c (raw_from (count + 1 + 1) (rests later)));
+            bytes = rw passed.then (drop_bytes left (span_of left) so_far.bytes);
             short = so_far.short;
             counted = omega (arith, so_far.counted, length-append so_far.done (c ∷ []));
-            fewer = omega (arith, so_far.fewer, here.moves);
-            less = omega (arith, so_far.less, no_longer, is_pos);
+            fewer = count_fits;
+            less = omega (arith, so_far.less, no_longer, fewer_left, is_pos);
             size = omega (arith, so_far.size, long, is_pos);
             room = so_far.room ∙ sym (ap length is_buffer ∙ length-sets buffer pos (stored_command c));
             front = rw (is_pos, is_buffer)
                 (front_more buffer pos (stored_command c) packed_fits ∙ ap (λ l. l ++ stored_command c) so_far.front ∙ sym (stored_more so_far.done c));
           }
 
-  pub all_packed : length s ≤ at → Packs (raw_says s) count pos buffer
+  pub all_packed : rests left ≡ [] → Packs (raw_says s) count pos buffer
   unfolding raw_from
-  all_packed end =
+  all_packed none =
       record {
         cs = so_far.done;
         is = so_far.whole
-            ∙ ap (λ l. behind so_far.done (raw_from (count + 1) (rests l))) (drop_of_length-le s {i = at} end)
-            ∙ ap (λ l. behind so_far.done (raw_from (count + 1) l)) rests_none
+            ∙ ap (λ l. behind so_far.done (raw_from (count + 1) l)) none
             ∙ behind-said so_far.done 0;
         counted = so_far.counted;
         size = so_far.size;
-        short = omega (arith, so_far.less, so_far.within, so_far.short);
+        short = omega (arith, so_far.less, so_far.short);
         front = so_far.front;
       }
 

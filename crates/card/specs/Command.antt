@@ -4,7 +4,7 @@ use Rattle.std.specs.Prelude.{ℕ, List, [], ◌∷◌, ◌++◌, Bool, cond, lt
 use Rattle.words.specs.Codes.{◌when◌}
 use Rattle.wire.specs.declared.table.Form.{Form}
 use Rattle.wire.specs.declared.table.Layout.{Layout}
-use Rattle.wire.specs.declared.table.Found.{Found}
+use Rattle.std.specs.Prelude.{Option, Some, None}
 use Rattle.wire.specs.declared.kinds.Command.{Command}
 use Rattle.wire.specs.declared.kinds.Parts.{Parts}
 use Rattle.wire.specs.Table.{row_of, rule_of, arguments_of}
@@ -61,9 +61,9 @@ unfoldable pub behind_opcode : List ℕ → ℕ → Form → Got Command
 behind_opcode s at form = and_then (flag_at s at) (λ flag next. and_then (arguments_at s next form) (λ parts end. flagged (eqb flag 1) parts end))
 
 -- 5 where the opcode is not in the table, whatever 32-bit number it is.
-abbrev pub found_at : List ℕ → ℕ → Found → Got Command
-found_at s at (Found.Known form words) = behind_opcode s at form
-found_at s at Found.Unknown = refused (plain 5)
+abbrev pub found_at : List ℕ → ℕ → Option (Form × ℕ) → Got Command
+found_at s at (Some (form, words)) = behind_opcode s at form
+found_at s at None = refused (plain 5)
 
 -- The command that begins at a place.
 unfoldable pub command_at : List ℕ → ℕ → Got Command

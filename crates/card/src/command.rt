@@ -7,7 +7,7 @@ ghost use Rattle.card.specs.Steps.{got_number, got_arguments, got_command};
 
 use super::answers::Fault;
 use super::number::{Number, number_at};
-use wire::{Form, Found, Judged, Layout, Refusal, Stray};
+use wire::{Form, Layout, Refusal, Stray};
 
 // Both arguments of a form, 0 for one that it does not have, and the place behind them.
 #[derive(Drop)]
@@ -86,8 +86,8 @@ fn flagged(form: Form, flag: bool, first: u32, second: u32, end: usize) -> Store
     let row = wire::row_of(form);
     let rule = row.flags;
     match wire::judge_flag(rule, flag) {
-        Judged::Refused(refusal) => Stored::Bad(Fault::Wire(refusal)),
-        Judged::Allowed => {
+        Err(refusal) => Stored::Bad(Fault::Wire(refusal)),
+        Ok(()) => {
             let kind = wire::kind_of(form, first, second);
             Stored::Taken(wire::Command { flag, kind }, end)
         }
@@ -108,11 +108,11 @@ fn behind_opcode(s: &[u8], at: usize, form: Form) -> Stored
 }
 
 // What a number stands for as an opcode.
-fn rule_for(opcode: u32) -> Found
+fn rule_for(opcode: u32) -> Option<(Form, u16)>
     ensures { result ≡ rule_of opcode }
 {
     if LARGEST_OPCODE < opcode {
-        return Found::Unknown;
+        return None;
     }
     wire::rule_of(opcode as u16)
 }
@@ -124,8 +124,8 @@ pub fn command_at(s: &[u8], at: usize) -> Stored
     match number_at(s, at) {
         Number::Bad(fault) => Stored::Bad(fault),
         Number::Taken(opcode, next) => match rule_for(opcode) {
-            Found::Unknown => Stored::Bad(Fault::Wire(Refusal::UnknownOpcode)),
-            Found::Known(form, _) => behind_opcode(s, next, form),
+            None => Stored::Bad(Fault::Wire(Refusal::UnknownOpcode)),
+            Some((form, _)) => behind_opcode(s, next, form),
         },
     }
 }

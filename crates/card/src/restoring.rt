@@ -41,7 +41,7 @@ fn put_behind(command: wire::Command, buffer: &mut [u8], pos: usize) -> usize
         return pos;
     }
     let n = command_length(command);
-    wire::write_command(command, &mut buffer[pos..]);
+    let _ = wire::write_command(command, &mut buffer[pos..]);
     pos + n
 }
 

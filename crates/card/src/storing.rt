@@ -10,6 +10,7 @@ ghost use Rattle.card.specs.Answers.{answer_of, to_card};
 ghost use Rattle.card.specs.Steps.{AsPacked};
 
 use super::answers::{Fault, Moved, no_room};
+use walk::Commands;
 
 // The first number of a stored list.
 pub const FIRST: u32 = 1;
@@ -124,21 +125,16 @@ fn pack(list: &[u8], buffer: &mut [u8]) -> Packed
     requires value { 4096 ≡ length buffer.old }
     ensures { AsPacked result (raw_says list.now) buffer.new }
 {
-    let mut at: usize = 0;
     let mut pos: usize = 0;
     let mut count: u32 = 0;
-    while at < list.len() {
-        let n = wire::span(&list[at..]);
-        match wire::read_command(&list[at..]) {
-            wire::Reading::Refused(refusal) => {
-                return Packed::Bad(count + 1, refusal);
-            }
-            wire::Reading::Taken(command) => {
+    for rest in Commands::new(list) {
+        count += 1;
+        match wire::read_command(rest) {
+            Err(refusal) => return Packed::Bad(count, refusal),
+            Ok(command) => {
                 pos = put_command(buffer, pos, command);
             }
         }
-        at += n;
-        count += 1;
     }
     Packed::All(count, pos)
 }

@@ -9,7 +9,8 @@ use lib.Seq.{sets, sets-eq, length-take-le}
 use lib.Dec.{eqb}
 use borrow.Author.Tests.{le-ltb, lt-ltb}
 use Rattle.words.proofs.Laws.{sets-append}
-use Rattle.index.specs.declared.Indexed.{Indexed}
+use Rattle.std.specs.Prelude.{Result, Ok, Err}
+use Rattle.index.specs.declared.Refusal.{Refusal}
 use Rattle.index.specs.Index.{starts_from, last_of, index_of}
 use Rattle.index.specs.Answers.{unfit, build_code, answer_of, built_as, room_after}
 
@@ -23,7 +24,7 @@ length_index s old =
     length-append (take (length old - 1) old) (starts_from s (last_of old)) ∙ ap (λ n. n + length (starts_from s (last_of old))) (length_kept old)
 
 -- What is promised of an answer and of the room.
-abbrev pub Said : List ℕ → List ℕ → List ℕ → Indexed → List ℕ → Type 0
+abbrev pub Said : List ℕ → List ℕ → List ℕ → Result ℕ Refusal → List ℕ → Type 0
 Said s old room r room' = (answer_of r ≡ built_as s old room) × (room' ≡ room_after s old room)
 
 module _ (s old room : List ℕ) where
@@ -36,14 +37,14 @@ module _ (s old room : List ℕ) where
   unfolding build_code
   code_long long = rw (lt-ltb 4096 (length s) long)
 
-  pub too_long : 4096 < length s → Said s old room Indexed.TooLong room
+  pub too_long : 4096 < length s → Said s old room (Err Refusal.TooLong) room
   too_long long = refused 20 refl (code_long long)
 
   code_unfit : length s ≤ 4096 → unfit (length s) old ≡ true → build_code s old room ≡ 54
   unfolding build_code
   code_unfit short due = rw (le-ltb 4096 (length s) short, due)
 
-  pub bad_offsets : length s ≤ 4096 → unfit (length s) old ≡ true → Said s old room Indexed.BadOffsets room
+  pub bad_offsets : length s ≤ 4096 → unfit (length s) old ≡ true → Said s old room (Err Refusal.BadOffsets) room
   bad_offsets short due = refused 54 refl (code_unfit short due)
 
 -- The list and the offsets are taken, so many of these stay, and the walk from the last one found so many commands.
@@ -62,7 +63,7 @@ module _ (s old room : List ℕ) (kept from found : ℕ) (w : Walked s old kept 
   unfolding build_code
   code_more more = rw (le-ltb 4096 (length s) w.short, w.fit, ← all, lt-ltb 512 (kept + found) more)
 
-  pub too_many_found : 512 < kept + found → Said s old room Indexed.NoRoom room
+  pub too_many_found : 512 < kept + found → Said s old room (Err Refusal.NoRoom) room
   too_many_found more = refused s old room 24 refl (code_more more)
 
   module _ (few : kept + found ≤ 512) where
@@ -71,7 +72,7 @@ module _ (s old room : List ℕ) (kept from found : ℕ) (w : Walked s old kept 
     code_short less =
         rw (le-ltb 4096 (length s) w.short, w.fit, ← all, le-ltb 512 (kept + found) few, lt-ltb (length room) (kept + found) less)
 
-    pub too_few_places : length room < kept + found → Said s old room Indexed.NoRoom room
+    pub too_few_places : length room < kept + found → Said s old room (Err Refusal.NoRoom) room
     too_few_places less = refused s old room 24 refl (code_short less)
 
     -- Both parts stored are the index stored.
@@ -100,6 +101,6 @@ module _ (s old room : List ℕ) (kept from found : ℕ) (w : Walked s old kept 
             ∙ sets-eq (head ++ tail) room 0 (omega (arith, long))
             ∙ rw front
 
-        pub done : Said s old room (Indexed.Built (kept + found)) room₂
+        pub done : Said s old room (Ok (kept + found)) room₂
         unfolding built_as room_after
         done = rw (code_done, all) (refl, stored)

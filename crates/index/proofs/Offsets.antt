@@ -1,14 +1,14 @@
 -- The tests of the offsets that are handed in: rising and lying in the list, one offset at a time, and the four answers.
-use Prim.Native.Nat.{ℕ, ◌+◌, ◌≤◌, ◌<◌}
+use Prim.Native.Nat.{ℕ, zero, suc, ◌+◌, ◌-◌, ◌≤◌, ◌<◌}
 use mathlib.Core.Path.{◌≡◌, refl, sym, ap, ◌∙◌}
 use mathlib.Core.List.{List, [], ◌∷◌}
-use mathlib.Core.Bool.{Bool, true, false, not, ◌&&◌, ◌||◌}
+use mathlib.Core.Bool.{Bool, true, false, not, ◌&&◌, ◌||◌, false≢true}
 use native.Mathlib.Omega.{arith}
 use native.Mathlib.Numerals.{add-one}
 use lib.ListN.{length, get_or, drop, drop_of_length-le}
 use lib.Seq.{drop-cons}
 use lib.Dec.{leb, ltb}
-use borrow.Author.Tests.{ne_eqb, le-leb, lt-leb, le-ltb, lt-ltb}
+use borrow.Author.Tests.{ltb-true, ne_eqb, le-leb, lt-leb, le-ltb, lt-ltb}
 use Rattle.index.specs.Index.{last_of}
 use Rattle.index.specs.Answers.{from_zero, rising, within, unfit}
 use Rattle.index.specs.Steps.{climbing}
@@ -97,3 +97,29 @@ module _ (end : ℕ) (old : List ℕ) where
     by_climb first r is =
         rw (le-ltb 512 (length old) few, first_zero old first)
         (ap not (is ∙ climbing_all end old) ∙ either (rising old) (within end old))
+
+-- The last of offsets that are taken lies in the list.
+last_in : (end : ℕ) (old : List ℕ) → within end old ≡ true → last_of old ≤ end
+last_in end [] e = omega arith
+last_in end (o ∷ os) e =
+    let last : length (o ∷ os) - 1 ≡ length os = omega arith in
+    omega (arith, lies end (o ∷ os) (length os) e (omega arith), ap (λ k. get_or (o ∷ os) k 0) last)
+  where
+    halves : (a b : Bool) → (a && b) ≡ true → (a ≡ true) × (b ≡ true)
+    halves true b e = (refl, e)
+    halves false b e = absurd (false≢true e)
+
+    lies : (end : ℕ) (old : List ℕ) (k : ℕ) → within end old ≡ true → k < length old → get_or old k 0 < end
+    lies end [] k e there = absurd (omega arith)
+    lies end (o ∷ os) zero e there = ltb-true o end (halves (ltb o end) (within end os) e).0
+    lies end (o ∷ os) (suc k) e there = lies end os k (halves (ltb o end) (within end os) e).1 (omega arith)
+
+pub fit_last : (end : ℕ) (old : List ℕ) → unfit end old ≡ false → last_of old ≤ end
+fit_last end old e = last_in end old (fourth (ltb 512 (length old)) (not (from_zero old)) (not (rising old)) (within end old) e)
+  where
+    fourth : (a b c d : Bool) → (a || (b || (c || not d))) ≡ false → d ≡ true
+    fourth true b c d e = absurd (false≢true (sym e))
+    fourth false true c d e = absurd (false≢true (sym e))
+    fourth false false true d e = absurd (false≢true (sym e))
+    fourth false false false true e = refl
+    fourth false false false false e = absurd (false≢true (sym e))

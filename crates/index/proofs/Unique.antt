@@ -8,24 +8,25 @@ use denote.Ref.{Bor}
 use Rattle.words.proofs.Laws.{one_to_one}
 use Rattle.walk.specs.Shown.{Placed}
 use Rattle.walk.proofs.Unique.{one_place}
-use Rattle.index.specs.declared.Indexed.{Indexed}
+use Rattle.std.specs.Prelude.{Result, Ok, Err}
+use Rattle.index.specs.declared.Refusal.{Refusal}
 use Rattle.index.specs.Answers.{Answer, answer_of}
 use Rattle.index.specs.Found.{found_of, found_at}
 
 -- The result with an answer.
-abbrev result_of : Answer → Indexed
+abbrev result_of : Answer → Result ℕ Refusal
 result_of a =
-    cond (eqb a.code 0) (Indexed.Built a.count)
-    (cond (eqb a.code 20) Indexed.TooLong (cond (eqb a.code 54) Indexed.BadOffsets Indexed.NoRoom))
+    cond (eqb a.code 0) (Ok a.count)
+    (cond (eqb a.code 20) (Err Refusal.TooLong) (cond (eqb a.code 54) (Err Refusal.BadOffsets) (Err Refusal.NoRoom)))
 
-result_back : (r : Indexed) → result_of (answer_of r) ≡ r
-result_back (Indexed.Built count) = refl
-result_back Indexed.TooLong = refl
-result_back Indexed.BadOffsets = refl
-result_back Indexed.NoRoom = refl
+result_back : (r : Result ℕ Refusal) → result_of (answer_of r) ≡ r
+result_back (Ok count) = refl
+result_back (Err Refusal.TooLong) = refl
+result_back (Err Refusal.BadOffsets) = refl
+result_back (Err Refusal.NoRoom) = refl
 
 -- No two results say the same: `build` has one result.
-pub one_indexed : (x y : Indexed) → answer_of x ≡ answer_of y → x ≡ y
+pub one_indexed : (x y : Result ℕ Refusal) → answer_of x ≡ answer_of y → x ≡ y
 one_indexed = one_to_one answer_of result_of result_back
 
 -- What `look_up` promises of its answer.

@@ -1,8 +1,8 @@
 -- 02, Q-14, the codes: "20, then 54 when the offsets handed in (none is fine) number above 512, do not start at 0, do not rise, or lie outside the list,
 -- then 24 when the index has too little room."
-use Rattle.std.specs.Prelude.{ℕ, List, [], ◌∷◌, ◌++◌, Bool, true, cond, not, ◌&&◌, ◌||◌, length, drop, eqb, ltb}
+use Rattle.std.specs.Prelude.{ℕ, List, [], ◌∷◌, ◌++◌, Bool, true, cond, not, ◌&&◌, ◌||◌, length, drop, eqb, ltb, Result, Ok, Err}
 use Rattle.words.specs.Codes.{Check, ◌when◌, first_of}
-use Rattle.index.specs.declared.Indexed.{Indexed}
+use Rattle.index.specs.declared.Refusal.{Refusal}
 use Rattle.index.specs.Index.{index_of}
 
 -- The first offset is 0.
@@ -44,11 +44,14 @@ pub record Answer : Type 0 where
   pub code : ℕ
   pub count : ℕ
 
-abbrev pub answer_of : Indexed → Answer
-answer_of (Indexed.Built count) = record { code = 0; count = count }
-answer_of Indexed.TooLong = record { code = 20; count = 0 }
-answer_of Indexed.BadOffsets = record { code = 54; count = 0 }
-answer_of Indexed.NoRoom = record { code = 24; count = 0 }
+abbrev pub refusal_code : Refusal → ℕ
+refusal_code Refusal.TooLong = 20
+refusal_code Refusal.BadOffsets = 54
+refusal_code Refusal.NoRoom = 24
+
+abbrev pub answer_of : Result ℕ Refusal → Answer
+answer_of (Ok count) = record { code = 0; count = count }
+answer_of (Err refusal) = record { code = refusal_code refusal; count = 0 }
 
 unfoldable pub built_as : List ℕ → List ℕ → List ℕ → Answer
 unfolding build_code

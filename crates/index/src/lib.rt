@@ -6,31 +6,45 @@ ghost use Rattle.std.specs.Prelude.{◌+◌, ◌-◌, ◌≤◌, ◌≡◌, leng
 ghost use Rattle.std.proofs.lemmas.List.Edits.{sets};
 ghost use Rattle.walk.specs.Shown.{Placed};
 ghost use Rattle.index.specs.Index.{last_of};
-ghost use Rattle.index.specs.Answers.{unfit, answer_of, built_as, room_after};
+ghost use Rattle.index.specs.Answers.{unfit, refusal_code, answer_of, built_as, room_after};
 ghost use Rattle.index.specs.Found.{place_by, found_of, found_at};
 ghost use Rattle.index.specs.Steps.{climbing, Gathered};
+
+use walk::Commands;
 
 // The most offsets of an index: a list that is taken has no more commands.
 pub const MOST: usize = 512;
 
-// What came of it: an index of so many offsets, or why there is none.
-#[derive(Clone, Copy)]
-pub enum Indexed {
-    Built(usize),
+// Why there is no index.
+#[derive(Clone, Copy, Debug, PartialEq, Eq)]
+pub enum Refusal {
     TooLong,
     BadOffsets,
     NoRoom,
 }
+
+impl Refusal {
+    pub fn code(self) -> u8
+        ensures { result ≡ refusal_code self }
+    {
+        match self {
+            Refusal::TooLong => 20,
+            Refusal::BadOffsets => 54,
+            Refusal::NoRoom => 24,
+        }
+    }
+}
+
+// What came of it: an index of so many offsets, or why there is none.
+pub type Indexed = Result<usize, Refusal>;
 
 // The code of an answer.
 pub fn code_of(indexed: Indexed) -> u8
     ensures { result ≡ (answer_of indexed).code }
 {
     match indexed {
-        Indexed::Built(_) => 0,
-        Indexed::TooLong => 20,
-        Indexed::BadOffsets => 54,
-        Indexed::NoRoom => 24,
+        Ok(_) => 0,
+        Err(refusal) => refusal.code(),
     }
 }
 
@@ -38,19 +52,7 @@ pub fn code_of(indexed: Indexed) -> u8
 pub fn count_of(indexed: Indexed) -> usize
     ensures { result ≡ (answer_of indexed).count }
 {
-    match indexed {
-        Indexed::Built(count) => count,
-        Indexed::TooLong => 0,
-        Indexed::BadOffsets => 0,
-        Indexed::NoRoom => 0,
-    }
-}
-
-// An offset as a place of its list.
-fn wide(offset: u16) -> usize
-    ensures { result ≡ offset }
-{
-    offset as usize
+    indexed.unwrap_or(0)
 }
 
 // Do these offsets rise, each below this end?
@@ -58,9 +60,8 @@ fn climbs(old: &[u16], end: usize) -> bool
     ensures { result ≡ climbing 0 end old.now }
 {
     let mut least: usize = 0;
-    let mut i: usize = 0;
-    while i < old.len() {
-        let at = wide(old[i]);
+    for &offset in old {
+        let at = offset as usize;
         if at < least {
             return false;
         }
@@ -68,7 +69,6 @@ fn climbs(old: &[u16], end: usize) -> bool
             return false;
         }
         least = at + 1;
-        i += 1;
     }
     true
 }
@@ -89,17 +89,16 @@ fn are_unfit(old: &[u16], end: usize) -> bool
     !climbs(old, end)
 }
 
-// Puts where the commands from a place on begin at the front of a buffer, and says how many they are. Each turn passes one of them.
+// Puts where the commands from a place on begin at the front of a buffer, and says how many they are.
 fn gather(list: &[u8], from: usize, buffer: &mut [u16]) -> usize
     requires list_len_bound { length list.now ≤ 4096 }
+    requires from_bound { from ≤ length list.now }
     requires in_bounds { 512 ≤ length buffer.old }
     ensures { Gathered list.now from buffer.new result }
 {
-    let mut at = from;
     let mut n: usize = 0;
-    while at < list.len() {
-        buffer[n] = at as u16;
-        at += wire::span(&list[at..]);
+    for rest in Commands::new(&list[from..]) {
+        buffer[n] = (list.len() - rest.len()) as u16;
         n += 1;
     }
     n
@@ -110,31 +109,24 @@ fn put_offsets(room: &mut [u16], at: usize, offsets: &[u16])
     requires { at + length offsets.now ≤ length room.old }
     ensures { room.new ≡ sets room.old at offsets.now }
 {
-    let mut i: usize = 0;
-    while i < offsets.len() {
-        room[at + i] = offsets[i];
-        i += 1;
-    }
+    room[at..at + offsets.len()].copy_from_slice(offsets);
 }
 
 // How many offsets stay: all but the last.
 fn kept_of(old: &[u16]) -> usize
     ensures { result ≡ length old.now - 1 }
 {
-    if old.len() == 0 {
-        return 0;
-    }
-    old.len() - 1
+    old.len().saturating_sub(1)
 }
 
 // The last offset, from where the list is walked; 0 where there is none.
 fn last_of(old: &[u16]) -> usize
     ensures { result ≡ last_of old.now }
 {
-    if old.len() == 0 {
-        return 0;
+    match old.last() {
+        Some(&offset) => offset as usize,
+        None => 0,
     }
-    wide(old[old.len() - 1])
 }
 
 // The index of a list at the front of a room, from the offsets of an earlier one; none builds it anew.
@@ -143,24 +135,24 @@ pub fn build(list: &[u8], old: &[u16], room: &mut [u16]) -> Indexed
     ensures room_after { room.new ≡ room_after list.now old.now room.old }
 {
     if walk::LONGEST < list.len() {
-        return Indexed::TooLong;
+        return Err(Refusal::TooLong);
     }
     if are_unfit(old, list.len()) {
-        return Indexed::BadOffsets;
+        return Err(Refusal::BadOffsets);
     }
     let kept = kept_of(old);
     let mut buffer = [0u16; MOST];
     let found = gather(list, last_of(old), &mut buffer);
     let count = kept + found;
     if MOST < count {
-        return Indexed::NoRoom;
+        return Err(Refusal::NoRoom);
     }
     if room.len() < count {
-        return Indexed::NoRoom;
+        return Err(Refusal::NoRoom);
     }
     put_offsets(room, 0, &old[..kept]);
     put_offsets(room, kept, &buffer[..found]);
-    Indexed::Built(count)
+    Ok(count)
 }
 
 // Where the command of a number begins by an index; the list's length where there is none.
@@ -173,10 +165,10 @@ fn place_of(list: &[u8], offsets: &[u16], number: u32) -> usize
     if number == 0 {
         return list.len();
     }
-    if offsets.len() < number as usize {
-        return list.len();
+    match offsets.get(number as usize - 1) {
+        Some(&offset) => offset as usize,
+        None => list.len(),
     }
-    wide(offsets[number as usize - 1])
 }
 
 // The bytes of the command of a number, from 1: a part of the list, empty where there is no such command.

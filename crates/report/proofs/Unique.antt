@@ -2,12 +2,13 @@
 -- was.
 use mathlib.Core.Path.{◌≡◌, refl}
 use native.Mathlib.Omega.{arith}
-use Rattle.report.specs.declared.Put.{Put}
+use Rattle.std.specs.Prelude.{Result, Ok, Err}
+use Rattle.words.specs.declared.codes.NoRoom.{NoRoom}
 use Rattle.report.specs.Record.{code_of}
 
 -- Two answers with the same number are the same.
-pub one_put : (a b : Put) → code_of a ≡ code_of b → a ≡ b
-one_put Put.Done Put.Done e = refl
-one_put Put.Done Put.NoRoom e = absurd (omega arith)
-one_put Put.NoRoom Put.Done e = absurd (omega arith)
-one_put Put.NoRoom Put.NoRoom e = refl
+pub one_put : (a b : Result Unit NoRoom) → code_of a ≡ code_of b → a ≡ b
+one_put (Ok a) (Ok b) e = refl
+one_put (Ok a) (Err b) e = absurd (omega arith)
+one_put (Err a) (Ok b) e = absurd (omega arith)
+one_put (Err a) (Err b) e = refl

@@ -6,6 +6,8 @@ ghost use Rattle.words.specs.BigEndian.{written};
 ghost use Rattle.report.specs.Record.{record_bytes, record_length, code_of, put_code};
 ghost use Rattle.report.specs.Latest.{no_latest, number_in, code_in, last_failed, latest_of};
 
+use words::NoRoom;
+
 // The bytes of a record.
 pub const RECORD: usize = 12;
 
@@ -23,12 +25,6 @@ pub const RECORDS: usize = 1024;
 
 pub const ROOM: usize = RECORDS * RECORD;
 
-#[derive(Clone, Copy)]
-pub enum Put {
-    Done,
-    NoRoom,
-}
-
 // The number of the last record, and number and code of the last whose code is not 0; 0 where there is none.
 #[derive(Clone, Copy)]
 pub struct Latest {
@@ -38,7 +34,14 @@ pub struct Latest {
 }
 
 // A record at the front of a room: the sender, the code, the parameter, a spare 0, the number, and the value.
-pub fn put_record(room: &mut [u8], sender: u8, code: u8, par: u8, number: u32, value: u32) -> Put
+pub fn put_record(
+    room: &mut [u8],
+    sender: u8,
+    code: u8,
+    par: u8,
+    number: u32,
+    value: u32,
+) -> Result<(), NoRoom>
     ensures result_value { code_of result ≡ put_code (record_bytes sender code par number value) room.old }
     ensures room_after { room.new ≡ written (record_bytes sender code par number value) room.old }
 {
@@ -47,11 +50,7 @@ pub fn put_record(room: &mut [u8], sender: u8, code: u8, par: u8, number: u32, v
     let bytes = [
         sender, code, par, 0, n[0], n[1], n[2], n[3], v[0], v[1], v[2], v[3],
     ];
-    if words::put_bytes(room, &bytes) {
-        Put::Done
-    } else {
-        Put::NoRoom
-    }
+    words::put_bytes(room, &bytes)
 }
 
 // The number that a record carries, counted from 1.
@@ -90,14 +89,12 @@ fn asked_of(report: &[u8], count: u32) -> u32
 fn last_failed(report: &[u8], count: u32) -> u32
     ensures { result ≡ last_failed report.now count }
 {
-    let mut left = asked_of(report, count);
-    while 0 < left {
+    for left in (1..=asked_of(report, count)).rev() {
         if code_in(report, left) != 0 {
             return left;
         }
-        left -= 1;
     }
-    left
+    0
 }
 
 // What the last of so many records at the front of a report say.

@@ -10,7 +10,9 @@ use lib.Dec.{eqb}
 use borrow.Author.Tests.{lt-ltb, le-ltb, lt-leb, le-leb}
 use Rattle.words.specs.BigEndian.{has_room, written}
 use Rattle.words.proofs.Laws.{with_room}
-use Rattle.rescue.specs.declared.Rescued.{Rescued}
+use Rattle.std.specs.Prelude.{Result, Ok, Err}
+use Rattle.rescue.specs.declared.Kept.{Kept}
+use Rattle.rescue.specs.declared.Refusal.{Refusal}
 use Rattle.rescue.specs.declared.Sums.{Sums}
 use Rattle.rescue.specs.Pieces.{kept_of, stretches_of}
 use Rattle.rescue.specs.Answers.{skipped_of, rescue_code, answer, answer_of, rescued_as, room_after, table_after}
@@ -18,7 +20,7 @@ use Rattle.rescue.specs.Steps.{Gathered}
 use Rattle.rescue.proofs.Turns.{length_table}
 
 -- What is promised of an answer and of both rooms.
-abbrev pub Said : List ℕ → List ℕ → List ℕ → Rescued → List ℕ → List ℕ → Type 0
+abbrev pub Said : List ℕ → List ℕ → List ℕ → Result Kept Refusal → List ℕ → List ℕ → Type 0
 Said s room table r room' table' = (answer_of r ≡ rescued_as s room table) × ((room' ≡ room_after s room table) × (table' ≡ table_after s room table))
 
 module _ (s room table : List ℕ) where
@@ -31,7 +33,7 @@ module _ (s room table : List ℕ) where
   unfolding rescue_code
   code_long long = rw (lt-ltb 4096 (length s) long)
 
-  pub too_long : 4096 < length s → Said s room table Rescued.TooLong room table
+  pub too_long : 4096 < length s → Said s room table (Err Refusal.TooLong) room table
   too_long long = refused 20 refl (code_long long)
 
   -- All was gathered.
@@ -52,7 +54,7 @@ module _ (s room table : List ℕ) where
     unfolding rescue_code
     code_kept less = rw (le-ltb 4096 (length s) short, lt-leb (length (kept_of s)) (length room) (omega (arith, is_kept)))
 
-    pub no_room_kept : length room < sums.kept → Said s room table Rescued.NoRoom room table
+    pub no_room_kept : length room < sums.kept → Said s room table (Err Refusal.NoRoom) room table
     no_room_kept less = refused 24 refl (code_kept less)
 
     module _ (fits : sums.kept ≤ length room) where
@@ -64,7 +66,7 @@ module _ (s room table : List ℕ) where
       code_table less =
           rw (le-ltb 4096 (length s) short, kept_fits, lt-leb (length (skipped_of s)) (length table) (omega (arith, is_table)))
 
-      pub no_room_table : length table < sums.table → Said s room table Rescued.NoRoom room table
+      pub no_room_table : length table < sums.table → Said s room table (Err Refusal.NoRoom) room table
       no_room_table less = refused 24 refl (code_table less)
 
       module _ (table_fits : sums.table ≤ length table) where
@@ -78,7 +80,7 @@ module _ (s room table : List ℕ) where
 
         -- Both were written at the front of their rooms.
         pub done : (room' table' : List ℕ) → room' ≡ written (take sums.kept kept) room → table' ≡ written (take sums.table skipped) table
-            → Said s room table (Rescued.Done sums.kept (sums.table / 4)) room' table'
+            → Said s room table (Ok (record { kept = sums.kept; stretches = sums.table / 4 })) room' table'
         unfolding rescued_as room_after table_after
         done room' table' put_kept put_table =
             rw (code_done, stretches, ← is_kept) (

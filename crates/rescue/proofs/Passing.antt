@@ -1,29 +1,28 @@
 -- Which commands pass: those of which no row of 1 to 8 is due. And what the reader's answer says of it.
 use Prim.Native.Nat.{ℕ, ◌≤◌, ◌<◌}
 use mathlib.Core.Path.{◌≡◌, refl, sym, ap, ◌∙◌}
-use mathlib.Core.Logic.{◌↔◌, ◌≢◌}
+use mathlib.Core.Logic.{◌↔◌}
 use mathlib.Core.List.{List, [], ◌∷◌, ◌++◌}
 use mathlib.Core.Bool.{Bool, true, false, cond, not, ◌&&◌, false≢true}
 use native.Mathlib.Omega.{arith}
 use lib.ListN.{length, take, drop}
 use lib.Seq.{length-take-le}
-use lib.Dec.{eqb}
-use borrow.Author.Tests.{ne_eqb, not-true}
+use borrow.Author.Tests.{not-true}
 use Rattle.words.specs.BigEndian.{word_at}
 use Rattle.words.specs.Codes.{Check, ◌when◌, first_of}
 use Rattle.words.proofs.Order.{NoneDue}
 use Rattle.words.proofs.Tests.{both}
-use Rattle.wire.specs.declared.table.Found.{Found}
+use Rattle.wire.specs.declared.table.Form.{Form}
+use Rattle.std.specs.Prelude.{Option, Some, None}
 use Rattle.wire.specs.declared.table.FlagRule.{FlagRule}
 use Rattle.wire.specs.declared.kinds.Command.{Command}
 use Rattle.wire.specs.declared.judging.Refusal.{Refusal}
-use Rattle.wire.specs.declared.judging.Told.{Told}
-use Rattle.wire.specs.declared.decoding.Reading.{Reading}
+use Rattle.std.specs.Prelude.{Ok, Err}
 use Rattle.wire.specs.Table.{row_of, rule_of}
 use Rattle.wire.specs.Judge.{told_of, flag_checks}
 use Rattle.wire.specs.Read.{Answer, answer_of, opcode_of, flag_of, length_of, third_word, sum_differs}
 use Rattle.wire.specs.Read.{reach_checks, reach_code, decode_checks, read_checks, read_code, read_of, span_of}
-use Rattle.wire.proofs.Answers.{refusal_code, reaches}
+use Rattle.wire.proofs.Answers.{reaches}
 use Rattle.wire.proofs.Local.{reached, reads_on, read_own, span_own}
 use Rattle.walk.proofs.Spans.{span_passed}
 use Rattle.rescue.specs.Pieces.{passes, passing}
@@ -64,16 +63,16 @@ pub passing_checks : (s : List ℕ) → (passing s ≡ true) ↔ NoneDue (take 8
 unfolding passing read_code
 passing_checks s = go (rule_of (opcode_of s))
   where
-    rows : Found → List Check
+    rows : Option (Form × ℕ) → List Check
     rows found =
         reach_checks s ++ (4 when sum_differs s (length_of s) ∷ decode_checks found (flag_of s) (length_of s) (word_at s 4) (third_word s (length_of s)))
 
-    go : (found : Found) → (passes (first_of (rows found)) ≡ true) ↔ NoneDue (take 8 (rows found))
-    go (Found.Known form words) =
-        let first = take 8 (rows (Found.Known form words)) in
-        let flags = drop 8 (rows (Found.Known form words)) in
+    go : (found : Option (Form × ℕ)) → (passes (first_of (rows found)) ≡ true) ↔ NoneDue (take 8 (rows found))
+    go (Some (form, words)) =
+        let first = take 8 (rows (Some (form, words))) in
+        let flags = drop 8 (rows (Some (form, words))) in
         (none_before first flags refl, λ none. ap passes (none_first first flags none) ∙ flags_pass (row_of form).flags (flag_of s))
-    go Found.Unknown = (none_before (rows Found.Unknown) [] refl, λ none. absurd (false≢true (sym none.1.1.1.1.0)))
+    go None = (none_before (rows None) [] refl, λ none. absurd (false≢true (sym none.1.1.1.1.0)))
 
 -- So a command that passes is whole: it reaches no further than the bytes do, and has eight of them at least.
 pub passing_reaches : (s : List ℕ) → passing s ≡ true → reach_code s ≡ 0
@@ -105,20 +104,11 @@ module _ (s : List ℕ) where
   unfolding passing read_of
   read_code_lem = refl
 
-  pub taken_passes : (c : Command) → answer_of (Reading.Taken c) ≡ read_of s → true ≡ passing s
+  pub taken_passes : (c : Command) → answer_of (Ok c) ≡ read_of s → true ≡ passing s
   taken_passes c e = ap (λ (a : Answer). passes a.told.code) e ∙ read_code_lem
 
-  module _ (r : Refusal) (told : Told) (e : answer_of (Reading.Refused r) ≡ read_of s) (is : told ≡ told_of r) where
-    by_code : passes told.code ≡ passing s
-    by_code = ap (λ (t : Told). passes t.code) is ∙ ap (λ (a : Answer). passes a.told.code) e ∙ read_code_lem
-
-    pub nine_passes : told.code ≡ 9 → true ≡ passing s
-    nine_passes h = ap passes (sym h) ∙ by_code
-
-    pub ten_passes : told.code ≢ 9 → eqb told.code 10 ≡ passing s
-    ten_passes h =
-        let some : eqb told.code 0 ≡ false = ap (λ (t : Told). eqb t.code 0) is ∙ refusal_code r in
-        sym (rw (some, ne_eqb told.code 9 h)) ∙ by_code
+  pub refused_passes : (r : Refusal) → answer_of (Err r) ≡ read_of s → passes (told_of r).code ≡ passing s
+  refused_passes r e = ap (λ (a : Answer). passes a.told.code) e ∙ read_code_lem
 
 -- It passes whatever follows it.
 pub passing_on : (s t : List ℕ) → passing s ≡ true → passing (s ++ t) ≡ true

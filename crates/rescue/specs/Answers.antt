@@ -1,8 +1,9 @@
 -- 02, Q-10, what is answered and left in the rooms: "Refusals: 20, then 24 when either output has too little room."
-use Rattle.std.specs.Prelude.{ℕ, ◌*◌, List, [], ◌∷◌, ◌++◌, cond, not, ◌||◌, length, drop, eqb, ltb}
+use Rattle.std.specs.Prelude.{ℕ, ◌*◌, List, [], ◌∷◌, ◌++◌, cond, not, ◌||◌, length, drop, eqb, ltb, Result, Ok, Err}
 use Rattle.words.specs.BigEndian.{has_room}
 use Rattle.words.specs.Codes.{Check, ◌when◌, first_of}
-use Rattle.rescue.specs.declared.Rescued.{Rescued}
+use Rattle.rescue.specs.declared.Kept.{Kept}
+use Rattle.rescue.specs.declared.Refusal.{Refusal}
 use Rattle.rescue.specs.Pieces.{kept_of, stretches_of, table_of}
 
 -- The table of the stretches that a rescue skips.
@@ -27,10 +28,13 @@ pub record Answer : Type 0 where
 abbrev pub answer : ℕ → ℕ → ℕ → Answer
 answer code kept stretches = record { code = code; kept = kept; stretches = stretches }
 
-abbrev pub answer_of : Rescued → Answer
-answer_of (Rescued.Done kept stretches) = answer 0 kept stretches
-answer_of Rescued.TooLong = answer 20 0 0
-answer_of Rescued.NoRoom = answer 24 0 0
+abbrev pub refusal_code : Refusal → ℕ
+refusal_code Refusal.TooLong = 20
+refusal_code Refusal.NoRoom = 24
+
+abbrev pub answer_of : Result Kept Refusal → Answer
+answer_of (Ok done) = answer 0 done.kept done.stretches
+answer_of (Err refusal) = answer (refusal_code refusal) 0 0
 
 -- The bytes that so many stretches take in a table: four each. No list that is taken has more than 456 stretches, and no more are counted.
 abbrev pub table_size : ℕ → ℕ

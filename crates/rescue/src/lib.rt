@@ -4,8 +4,9 @@
 
 ghost use Rattle.std.specs.Prelude.{◌≤◌, ◌≡◌, length};
 ghost use Rattle.words.specs.Text.{place_after, stored_at};
-ghost use Rattle.rescue.specs.Pieces.{passing, stretch_to, table_of};
-ghost use Rattle.rescue.specs.Answers.{answer_of, table_size, rescued_as, room_after, table_after};
+ghost use Rattle.wire.specs.Judge.{told_of};
+ghost use Rattle.rescue.specs.Pieces.{passes, passing, stretch_to, table_of};
+ghost use Rattle.rescue.specs.Answers.{refusal_code, answer_of, table_size, rescued_as, room_after, table_after};
 ghost use Rattle.rescue.specs.Steps.{Gathered};
 
 // The bytes of one stretch in a table: two numbers of 16 bits, its start and its length.
@@ -17,24 +18,39 @@ pub const MOST: usize = 456;
 // Room for a table of the most stretches.
 pub const TABLE: usize = MOST * STRETCH;
 
-// The codes with which a command is kept though it is refused: they are about its flag alone.
-const FLAG_FORBIDDEN: u8 = 9;
-
-const FLAG_MISSING: u8 = 10;
-
 // The bytes of the longest command.
 const LONGEST_COMMAND: usize = 128;
 
 // A stretch is written as one number of 32 bits, in which its start counts so much.
 const HALVES: u32 = 65536;
 
-// What came of it: so many bytes were kept and so many stretches skipped, or why nothing was written.
-#[derive(Clone, Copy)]
-pub enum Rescued {
-    Done(usize, usize),
+// How many bytes were kept, and how many stretches skipped.
+#[derive(Clone, Copy, Debug, PartialEq, Eq)]
+pub struct Kept {
+    pub kept: usize,
+    pub stretches: usize,
+}
+
+// Why nothing was written.
+#[derive(Clone, Copy, Debug, PartialEq, Eq)]
+pub enum Refusal {
     TooLong,
     NoRoom,
 }
+
+impl Refusal {
+    pub fn code(self) -> u8
+        ensures { result ≡ refusal_code self }
+    {
+        match self {
+            Refusal::TooLong => 20,
+            Refusal::NoRoom => 24,
+        }
+    }
+}
+
+// What came of it.
+pub type Rescued = Result<Kept, Refusal>;
 
 // What was gathered: how many bytes of commands, and how many of the table of stretches.
 #[derive(Drop)]
@@ -48,9 +64,8 @@ pub fn code_of(rescued: Rescued) -> u8
     ensures { result ≡ (answer_of rescued).code }
 {
     match rescued {
-        Rescued::Done(_, _) => 0,
-        Rescued::TooLong => 20,
-        Rescued::NoRoom => 24,
+        Ok(_) => 0,
+        Err(refusal) => refusal.code(),
     }
 }
 
@@ -58,22 +73,14 @@ pub fn code_of(rescued: Rescued) -> u8
 pub fn kept_of(rescued: Rescued) -> usize
     ensures { result ≡ (answer_of rescued).kept }
 {
-    match rescued {
-        Rescued::Done(kept, _) => kept,
-        Rescued::TooLong => 0,
-        Rescued::NoRoom => 0,
-    }
+    rescued.map_or(0, |done| done.kept)
 }
 
 // How many stretches were skipped; none on a refusal.
 pub fn stretches_of(rescued: Rescued) -> usize
     ensures { result ≡ (answer_of rescued).stretches }
 {
-    match rescued {
-        Rescued::Done(_, stretches) => stretches,
-        Rescued::TooLong => 0,
-        Rescued::NoRoom => 0,
-    }
+    rescued.map_or(0, |done| done.stretches)
 }
 
 // How many bytes so many stretches take in a table. No list that is taken has more than the most.
@@ -94,19 +101,23 @@ pub fn table_of(rescued: Rescued) -> usize
     table_size(stretches_of(rescued))
 }
 
+// Is a refusal about the flag alone? Then the command is kept though it is refused.
+fn is_for_flag(refusal: wire::Refusal) -> bool
+    ensures { result ≡ passes (told_of refusal).code }
+{
+    matches!(
+        refusal,
+        wire::Refusal::FlagForbidden | wire::Refusal::FlagMissing
+    )
+}
+
 // Does the command at the front pass, as its reading says?
 fn reads_well(s: &[u8]) -> bool
     ensures { result ≡ passing s.now }
 {
     match wire::read_command(s) {
-        wire::Reading::Taken(_) => true,
-        wire::Reading::Refused(refusal) => {
-            let told = wire::told_of(refusal);
-            if told.code == FLAG_FORBIDDEN {
-                return true;
-            }
-            told.code == FLAG_MISSING
-        }
+        Ok(_) => true,
+        Err(refusal) => is_for_flag(refusal),
     }
 }
 
@@ -171,7 +182,7 @@ pub fn rescue(list: &[u8], room: &mut [u8], table: &mut [u8]) -> Rescued
     ensures table_after { table.new ≡ table_after list.now room.old table.old }
 {
     if walk::LONGEST < list.len() {
-        return Rescued::TooLong;
+        return Err(Refusal::TooLong);
     }
     let mut kept = [0u8; walk::LONGEST];
     let mut stretches = [0u8; TABLE];
@@ -179,12 +190,15 @@ pub fn rescue(list: &[u8], room: &mut [u8], table: &mut [u8]) -> Rescued
     let n = sums.kept;
     let m = sums.table;
     if room.len() < n {
-        return Rescued::NoRoom;
+        return Err(Refusal::NoRoom);
     }
     if table.len() < m {
-        return Rescued::NoRoom;
+        return Err(Refusal::NoRoom);
     }
     words::put_bytes(room, &kept[..n]);
     words::put_bytes(table, &stretches[..m]);
-    Rescued::Done(n, m / STRETCH)
+    Ok(Kept {
+        kept: n,
+        stretches: m / STRETCH,
+    })
 }

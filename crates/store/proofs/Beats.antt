@@ -6,7 +6,7 @@ use lib.Dec.{eqb}
 use borrow.Author.Tests.{eq-eqb, ne_eqb}
 use Rattle.wire.specs.declared.table.Form.{Form}
 use Rattle.wire.specs.declared.table.Row.{Row}
-use Rattle.wire.specs.declared.table.Found.{Found}
+use Rattle.std.specs.Prelude.{Option, Some, None}
 use Rattle.wire.specs.declared.kinds.Kind.{Kind}
 use Rattle.wire.specs.Table.{row_of, rule_of}
 use Rattle.wire.specs.Kind.{kind_of}
@@ -71,7 +71,7 @@ module _ (opcode : ℕ) (flag : Bool) (first second : ℕ) where
       let inside = eqb (first_bad (row_of form) first second) 0 in
       let kind = kind_of form first second in
       let opcodes : opcode ≡ (row_of form).opcode = same ∙ ap (λ (r : Row). r.opcode) is in
-      let found : rule_of opcode ≡ Found.Known form (row_of form).words = ap rule_of opcodes ∙ form_found form in
+      let found : rule_of opcode ≡ Some (form, (row_of form).words) = ap rule_of opcodes ∙ form_found form in
       told ∙ by_range true inside kind ∙ sym (by_range flag inside kind) ∙ ap (λ f. beat_in (command_for f flag first second)) (sym found)
 
   pub beat_other : (run wait : Row) → run ≡ row_of Form.Run → wait ≡ row_of Form.Wait → (opcode ≡ run.opcode → ⊥) → (opcode ≡ wait.opcode → ⊥)
@@ -84,9 +84,9 @@ module _ (opcode : ℕ) (flag : Bool) (first second : ℕ) where
           (λ e. no_run (is ∙ e ∙ ap (λ (r : Row). r.opcode) (sym runs)))
           (λ e. no_wait (is ∙ e ∙ ap (λ (r : Row). r.opcode) (sym waits)))
 
-      go : (found : Found) → rule_of opcode ≡ found → Beat.Entry ≡ beat_in (command_for found flag first second)
-      go Found.Unknown e = refl
-      go (Found.Known form words) e =
+      go : (found : Option (Form × ℕ)) → rule_of opcode ≡ found → Beat.Entry ≡ beat_in (command_for found flag first second)
+      go None e = refl
+      go (Some (form, words)) e =
           let inside = eqb (first_bad (row_of form) first second) 0 in
           let kind = kind_of form first second in
           sym (by_range flag inside kind ∙ always_entry inside (beat_of (role_of kind)) (known form (found_form opcode form words e).0))

@@ -10,7 +10,8 @@ use lib.Seq.{get_or-take, get_or-drop}
 use lib.Dec.{leb, ltb, eqb}
 use borrow.Author.Tests.{ltb-true, ltb-false, leb-true, eqb-true}
 use Rattle.words.proofs.Tests.{both}
-use Rattle.wire.specs.declared.table.Found.{Found}
+use Rattle.wire.specs.declared.table.Form.{Form}
+use Rattle.std.specs.Prelude.{Option, Some, None}
 use Rattle.wire.specs.declared.kinds.Kind.{Kind}
 use Rattle.wire.specs.declared.kinds.Command.{Command}
 use Rattle.wire.specs.declared.kinds.Parts.{Parts}
@@ -34,10 +35,10 @@ abbrev pub Said : Kind → Type 0
 Said kind = stored_as (record { flag = true; kind = kind }) ≡ record { flag = true; kind = kind }
 
 -- Three words that say a flag-1 command have an opcode of the table, the flag and arguments in range: they are that command's words.
-canonical_for : (found : Found) (flag : Bool) (head first second : ℕ) → rule_of (head / 2) ≡ found → eqb (head % 2) 1 ≡ flag
+canonical_for : (found : Option (Form × ℕ)) (flag : Bool) (head first second : ℕ) → rule_of (head / 2) ≡ found → eqb (head % 2) 1 ≡ flag
     → (command_for found flag first second).flag ≡ true → words_of (command_for found flag first second) ≡ head ∷ first ∷ second ∷ []
-canonical_for Found.Unknown flag head first second is bit_is on = absurd (true≢false (sym on))
-canonical_for (Found.Known form n) flag head first second is bit_is on = go (eqb (first_bad (row_of form) first second) 0) refl on
+canonical_for None flag head first second is bit_is on = absurd (true≢false (sym on))
+canonical_for (Some (form, n)) flag head first second is bit_is on = go (eqb (first_bad (row_of form) first second) 0) refl on
   where
     whole : (opcode : ℕ) (b : Bool) → head / 2 ≡ opcode → eqb (head % 2) 1 ≡ b → b ≡ true → opcode * 2 + bit b ≡ head
     whole opcode true half odd on = let rest = eqb-true (head % 2) 1 odd in omega arith

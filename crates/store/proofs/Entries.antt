@@ -10,7 +10,7 @@ use lib.Seq.{length-take-le}
 use lib.Dec.{eqb}
 use borrow.Author.Tests.{eqb-true, not-false}
 use Rattle.wire.specs.declared.table.Form.{Form}
-use Rattle.wire.specs.declared.table.Found.{Found}
+use Rattle.std.specs.Prelude.{Some}
 use Rattle.wire.specs.declared.kinds.Kind.{Kind}
 use Rattle.wire.specs.declared.kinds.Command.{Command}
 use Rattle.wire.specs.declared.kinds.Parts.{Parts}
@@ -117,10 +117,10 @@ head_bit opcode false = let even : (opcode * 2 + 0) % 2 ≡ 0 = omega arith in a
 head_bit opcode true = let odd : (opcode * 2 + 1) % 2 ≡ 1 = omega arith in ap (λ n. eqb n 1) odd
 
 head_told : (form : Form) (flag : Bool) (first second : ℕ)
-    → command_of (head_of form flag) first second ≡ command_for (Found.Known form (row_of form).words) flag first second
+    → command_of (head_of form flag) first second ≡ command_for (Some (form, (row_of form).words)) flag first second
 head_told form flag first second =
     ap (λ found. command_for found (eqb (head_of form flag % 2) 1) first second) (ap rule_of (head_half (row_of form).opcode flag) ∙ form_found form)
-    ∙ ap (λ b. command_for (Found.Known form (row_of form).words) b first second) (head_bit (row_of form).opcode flag)
+    ∙ ap (λ b. command_for (Some (form, (row_of form).words)) b first second) (head_bit (row_of form).opcode flag)
 
 -- What the words of an allowed command say has its flag and passes 8 to 10 as it does.
 module _ (c : Command) (allowed : judge_code c ≡ 0) where

@@ -12,12 +12,12 @@ use borrow.Author.Tests.{leb-true, leb-false, le-leb, lt-leb, eqb-true}
 use Rattle.words.specs.Codes.{Check, ◌when◌, first_of}
 use Rattle.wire.specs.declared.table.Form.{Form}
 use Rattle.wire.specs.declared.table.Row.{Row}
-use Rattle.wire.specs.declared.table.Found.{Found}
+use Rattle.std.specs.Prelude.{Option, Some, None}
 use Rattle.wire.specs.declared.kinds.Kind.{Kind}
 use Rattle.wire.specs.declared.kinds.Command.{Command}
 use Rattle.wire.specs.declared.judging.Refusal.{Refusal}
 use Rattle.wire.specs.declared.judging.Told.{Told}
-use Rattle.wire.specs.declared.judging.Judged.{Judged}
+use Rattle.std.specs.Prelude.{Result, Ok, Err}
 use Rattle.wire.specs.Table.{row_of}
 use Rattle.wire.specs.Kind.{kind_of}
 use Rattle.wire.specs.Judge.{told_of, told_judged, first_bad, flag_checks, row_checks}
@@ -52,10 +52,10 @@ refusal_code Refusal.FlagForbidden = refl
 refusal_code Refusal.FlagMissing = refl
 refusal_code Refusal.NoRoom = refl
 
-pub passes_allowed : (told : Told) (r : Judged) → told_judged r ≡ told → r ≡ Judged.Allowed → true ≡ eqb told.code 0
+pub passes_allowed : (told : Told) (r : Result (Unit {0}) Refusal) → told_judged r ≡ told → r ≡ Ok tt → true ≡ eqb told.code 0
 passes_allowed told r tells is = rw (← tells, is)
 
-pub passes_refused : (told : Told) (r : Judged) (refusal : Refusal) → told_judged r ≡ told → r ≡ Judged.Refused refusal
+pub passes_refused : (told : Told) (r : Result (Unit {0}) Refusal) (refusal : Refusal) → told_judged r ≡ told → r ≡ Err refusal
     → false ≡ eqb told.code 0
 passes_refused told r refusal tells is = rw (← tells, is) (sym (refusal_code refusal))
 
@@ -126,7 +126,7 @@ module _ (closed : List Bool) (m : ℕ) (first second : ℕ) where
         all_three (run_passed holds) (ap not (lt-leb m (first % 256) below)) (not-not mark ∙ sym marked) ∙ form_as Form.Run
 
 -- An entry by its first word: with flag 0, or with an opcode that is not in the table, it does not hold; otherwise its form is asked.
-module _ (closed : List Bool) (m : ℕ) (found : Found) (flag : Bool) (first second : ℕ) where
+module _ (closed : List Bool) (m : ℕ) (found : Option (Form × ℕ)) (flag : Bool) (first second : ℕ) where
   pub entry_unflagged : flag ≡ false → false ≡ entry_holds closed m (command_for found flag first second)
   entry_unflagged off = rw off (go found)
     where
@@ -134,14 +134,14 @@ module _ (closed : List Bool) (m : ℕ) (found : Found) (flag : Bool) (first sec
       by true kind = refl
       by false kind = refl
 
-      go : (f : Found) → false ≡ entry_holds closed m (command_for f false first second)
-      go (Found.Known form words) = by (eqb (first_bad (row_of form) first second) 0) (kind_of form first second)
-      go Found.Unknown = refl
+      go : (f : Option (Form × ℕ)) → false ≡ entry_holds closed m (command_for f false first second)
+      go (Some (form, words)) = by (eqb (first_bad (row_of form) first second) 0) (kind_of form first second)
+      go None = refl
 
-  pub entry_unknown : found ≡ Found.Unknown → false ≡ entry_holds closed m (command_for found flag first second)
+  pub entry_unknown : found ≡ None → false ≡ entry_holds closed m (command_for found flag first second)
   entry_unknown is = rw is
 
-  pub entry_known : (form : Form) (words : ℕ) (holds : Bool) → found ≡ Found.Known form words → flag ≡ true
+  pub entry_known : (form : Form) (words : ℕ) (holds : Bool) → found ≡ Some (form, words) → flag ≡ true
       → holds ≡ form_holds closed m form first second
       → holds ≡ entry_holds closed m (command_for found flag first second)
   entry_known form words holds is on told = rw (is, on) told

@@ -10,7 +10,7 @@ use lib.Dec.{leb, eqb}
 use borrow.Author.Tests.{leb-true, eqb-true}
 use Rattle.words.proofs.Tests.{both}
 use Rattle.wire.specs.declared.table.Form.{Form}
-use Rattle.wire.specs.declared.table.Found.{Found}
+use Rattle.std.specs.Prelude.{Option, Some, None}
 use Rattle.wire.specs.declared.kinds.Kind.{Kind}
 use Rattle.wire.specs.Table.{row_of, rule_of}
 use Rattle.wire.specs.Kind.{kind_of}
@@ -79,9 +79,9 @@ form_lasts Form.Wait first second bad = wait_lasts first second bad
 form_lasts Form.Stop first second bad = tt
 form_lasts Form.Clear first second bad = tt
 
-command_lasts : (found : Found) (flag : Bool) (first second : ℕ) → KindLasts (command_for found flag first second).kind
-command_lasts Found.Unknown flag first second = tt
-command_lasts (Found.Known form words) flag first second = go (eqb (first_bad (row_of form) first second) 0) refl
+command_lasts : (found : Option (Form × ℕ)) (flag : Bool) (first second : ℕ) → KindLasts (command_for found flag first second).kind
+command_lasts None flag first second = tt
+command_lasts (Some (form, words)) flag first second = go (eqb (first_bad (row_of form) first second) 0) refl
   where
     go : (b : Bool) → eqb (first_bad (row_of form) first second) 0 ≡ b
         → KindLasts (cond b (record { flag = flag; kind = kind_of form first second }) no_command).kind

@@ -3,7 +3,7 @@
 -- from below, each macro by its entries and the table of those below it.
 use Rattle.std.specs.Prelude.{ℕ, zero, suc, ◌+◌, ◌<◌, min, max, ◌≡◌, List, [], ◌∷◌, Bool, true, false, cond, ◌&&◌, ◌||◌, get_or, set, replicate, ltb, eqb}
 use Rattle.wire.specs.declared.table.Form.{Form}
-use Rattle.wire.specs.declared.table.Found.{Found}
+use Rattle.std.specs.Prelude.{Some}
 use Rattle.wire.specs.declared.kinds.Command.{Command}
 use Rattle.store.specs.declared.Store.{Store}
 use Rattle.store.specs.declared.roles.Role.{Role}
@@ -121,7 +121,7 @@ beat_in e = beat_of (role_of e.kind)
 
 -- The same by a form and two arguments; out of range they are no command.
 abbrev pub beat_as : Form → ℕ → ℕ → Beat
-beat_as form first second = beat_in (command_for (Found.Known form 0) true first second)
+beat_as form first second = beat_in (command_for (Some (form, 0)) true first second)
 
 -- Does a RUN in macro m add anything? Its target is a closed macro with a smaller number.
 abbrev pub leads : List Bool → ℕ → ℕ → Bool

@@ -4,7 +4,7 @@
 use Rattle.std.specs.Prelude.{ℕ, ◌+◌, ◌≡◌, ◌⊎◌, List, [], ◌∷◌, Bool, true, false, cond, not, ◌&&◌, length, get_or, set, replicate, leb, eqb}
 use Rattle.words.specs.Codes.{Check, ◌when◌, first_of}
 use Rattle.wire.specs.declared.table.Form.{Form}
-use Rattle.wire.specs.declared.table.Found.{Found}
+use Rattle.std.specs.Prelude.{Some}
 use Rattle.wire.specs.declared.kinds.Command.{Command}
 use Rattle.store.specs.declared.Store.{Store}
 use Rattle.store.specs.declared.roles.Role.{Role}
@@ -106,7 +106,7 @@ pool_after pool t c = cond c.flag (words_after pool t.counts t.closed t.opened c
 
 -- The rules of macro m: on an entry with flag 1 by its form and arguments, on its entries, and by a tally that has the spans.
 abbrev pub form_holds : List Bool → ℕ → Form → ℕ → ℕ → Bool
-form_holds closed m form first second = entry_holds closed m (command_for (Found.Known form 0) true first second)
+form_holds closed m form first second = entry_holds closed m (command_for (Some (form, 0)) true first second)
 
 abbrev pub entries_by : List Bool → ℕ → List Command → Bool
 entries_by closed m es = all_of (entry_holds closed m) es

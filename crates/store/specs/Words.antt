@@ -1,7 +1,7 @@
 -- The pool's words, three to an entry, and the commands that they say.
 use Rattle.std.specs.Prelude.{ℕ, ◌+◌, ◌*◌, ◌-◌, ◌/◌, ◌%◌, List, [], ◌∷◌, ◌++◌, Bool, true, false, cond, take, drop, eqb}
 use Rattle.wire.specs.declared.table.Form.{Form}
-use Rattle.wire.specs.declared.table.Found.{Found}
+use Rattle.std.specs.Prelude.{Option, Some, None}
 use Rattle.wire.specs.declared.kinds.Kind.{Kind}
 use Rattle.wire.specs.declared.kinds.Command.{Command}
 use Rattle.wire.specs.Table.{row_of, rule_of}
@@ -26,10 +26,10 @@ abbrev pub no_command : Command
 no_command = record { flag = false; kind = Kind.ImgPwr 0 }
 
 -- The command that three words say: the opcode is in the table, and the arguments are in range.
-abbrev pub command_for : Found → Bool → ℕ → ℕ → Command
-command_for (Found.Known form words) flag first second =
+abbrev pub command_for : Option (Form × ℕ) → Bool → ℕ → ℕ → Command
+command_for (Some (form, words)) flag first second =
     cond (eqb (first_bad (row_of form) first second) 0) (record { flag = flag; kind = kind_of form first second }) no_command
-command_for Found.Unknown flag first second = no_command
+command_for None flag first second = no_command
 
 abbrev pub command_of : ℕ → ℕ → ℕ → Command
 command_of head first second = command_for (rule_of (head / 2)) (eqb (head % 2) 1) first second

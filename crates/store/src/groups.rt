@@ -13,7 +13,7 @@ use super::pool::{Entry, WORDS, end_of, entry_at, found_in, size_of, start_of};
 use super::spans::{Beat, Span, beat_in, has_target, less, seconds_of, span_at};
 use super::tally::Tally;
 use super::{GROUP, TOO_LONG};
-use wire::{Form, Found, Kind};
+use wire::{Form, Kind};
 
 // What a second handed over: the words of its entries in order, as the pool has them, and how many entries they are. Zeros stand behind them.
 #[derive(Clone, Copy)]
@@ -60,7 +60,7 @@ pub fn group_size(count: u8) -> usize
 
 // The kind that a form and two arguments say; out of range they are no command.
 fn kind_as(form: Form, first: u32, second: u32) -> Kind
-    ensures { result ≡ (command_for (Found.Known form 0) true first second).kind }
+    ensures { result ≡ (command_for (Some (form, 0)) true first second).kind }
 {
     if wire::first_bad(wire::row_of(form), first, second) == 0 {
         wire::kind_of(form, first, second)
@@ -71,7 +71,7 @@ fn kind_as(form: Form, first: u32, second: u32) -> Kind
 
 // The same; in each arm the form is a constant.
 fn kind_by(form: Form, first: u32, second: u32) -> Kind
-    ensures { result ≡ (command_for (Found.Known form 0) true first second).kind }
+    ensures { result ≡ (command_for (Some (form, 0)) true first second).kind }
 {
     match form {
         Form::ImgPwr => kind_as(Form::ImgPwr, first, second),
@@ -97,8 +97,8 @@ fn kind_in(entry: Entry) -> Kind
     ensures { result ≡ (command_in entry).kind }
 {
     match found_in(entry.head) {
-        Found::Unknown => Kind::ImgPwr(0),
-        Found::Known(form, _) => kind_by(form, entry.first, entry.second),
+        None => Kind::ImgPwr(0),
+        Some((form, _)) => kind_by(form, entry.first, entry.second),
     }
 }
 

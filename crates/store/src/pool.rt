@@ -9,7 +9,7 @@ ghost use Rattle.store.specs.GroupSteps.{words_in, words_at};
 
 use super::arrays::{bit_of, closed_at, count_at};
 use super::{ENTRIES, MACROS};
-use wire::{Command, Form, Found};
+use wire::{Command, Form};
 
 // The words of an entry: the opcode with the flag as its lowest bit, and the two arguments.
 pub(crate) const WORDS: usize = 3;
@@ -78,14 +78,14 @@ pub(crate) fn end_of(start: usize, size: usize) -> usize
 }
 
 // What the first word of an entry stands for: it may be too large for an opcode and its flag.
-pub(crate) fn found_in(head: u32) -> Found
+pub(crate) fn found_in(head: u32) -> Option<(Form, u16)>
     ensures { result ≡ rule_of (head / 2) }
 {
     let opcode = head / 2;
     if opcode < OPCODES {
         wire::rule_of(opcode as u16)
     } else {
-        Found::Unknown
+        None
     }
 }
 

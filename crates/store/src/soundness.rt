@@ -14,15 +14,15 @@ use super::pool::{Entry, end_of, entry_at, found_in, size_of};
 use super::spans::{Span, seconds_of, span_at};
 use super::tally::Tally;
 use super::{ENTRIES, GROUP, LONGEST, MACROS, NONE};
-use wire::{Form, Found, Judged, Row};
+use wire::{Form, Row};
 
 // Do a flag of 1 and these two numbers pass 8 to 10, by a row of the table?
 fn passes(row: Row, first: u32, second: u32) -> bool
     ensures { result ≡ eqb (first_of (row_checks row true first second)) 0 }
 {
     match wire::judge_by(row, true, first, second) {
-        Judged::Allowed => true,
-        Judged::Refused(_) => false,
+        Ok(()) => true,
+        Err(_) => false,
     }
 }
 
@@ -73,8 +73,8 @@ fn entry_holds(entry: Entry, m: u8, closed: [bool; 8]) -> bool
         return false;
     }
     match found_in(entry.head) {
-        Found::Unknown => false,
-        Found::Known(form, _) => form_holds(form, entry.first, entry.second, m, closed),
+        None => false,
+        Some((form, _)) => form_holds(form, entry.first, entry.second, m, closed),
     }
 }
 

@@ -14,11 +14,12 @@ use Rattle.words.specs.BigEndian.{word_at, has_room, written}
 use Rattle.words.specs.Codes.{◌when◌, first_of}
 use Rattle.words.proofs.FirstOf.{Coded, first_append}
 use Rattle.words.proofs.Front.{Bytes}
-use Rattle.wire.specs.declared.table.Found.{Found}
+use Rattle.wire.specs.declared.table.Form.{Form}
+use Rattle.std.specs.Prelude.{Option, Some, None}
 use Rattle.wire.specs.declared.kinds.Command.{Command}
 use Rattle.wire.specs.declared.judging.Refusal.{Refusal}
 use Rattle.wire.specs.declared.judging.Told.{Told}
-use Rattle.wire.specs.declared.decoding.Reading.{Reading}
+use Rattle.std.specs.Prelude.{Ok, Err}
 use Rattle.wire.specs.Table.{rule_of}
 use Rattle.wire.specs.Read.{Answer, answer_of, answer_for, opcode_of, flag_of, length_of, third_word, decode_checks, read_checks, read_code, read_of, said_parts, said, span_of}
 use Rattle.wire.specs.Write.{command_bytes}
@@ -45,9 +46,9 @@ no_fault : (f : Fault) → (told_fault f).code ≡ 0 → ⊥
 no_fault f e = eqb-false (told_fault f).code 0 (fault_code f) e
 
 -- No code of a reading is 0.
-coded_decode : (found : Found) (flag : Bool) (words one two : ℕ) → Coded (decode_checks found flag words one two)
-coded_decode Found.Unknown flag words one two = (omega arith, tt)
-coded_decode (Found.Known form n) flag words one two = (omega arith, (omega arith, (omega arith, (omega arith, (omega arith, (omega arith, tt))))))
+coded_decode : (found : Option (Form × ℕ)) (flag : Bool) (words one two : ℕ) → Coded (decode_checks found flag words one two)
+coded_decode None flag words one two = (omega arith, tt)
+coded_decode (Some (form, n)) flag words one two = (omega arith, (omega arith, (omega arith, (omega arith, (omega arith, (omega arith, tt))))))
 
 coded_read : (s : List ℕ) → Coded (read_checks s)
 coded_read s = (
@@ -69,14 +70,14 @@ module _ (s : List ℕ) where
   offered code is = rw is
 
   -- What the code makes of a reading.
-  pub offer_refused : (r : Refusal) → answer_of (Reading.Refused r) ≡ read_of s → offer_of (Offer.Bad (Fault.Wire r)) ≡ offered_at s
+  pub offer_refused : (r : Refusal) → answer_of (Err r) ≡ read_of s → offer_of (Offer.Bad (Fault.Wire r)) ≡ offered_at s
   unfolding read_of
   offer_refused r e =
       let code : (told_fault (Fault.Wire r)).code ≡ read_code s = ap (λ (a : Answer). a.told.code) e in
       let other : eqb (read_code s) 0 ≡ false = sym (ap (λ n. eqb n 0) code) ∙ refusal_code r in
       e ∙ sym (offered (read_code s) (list_code_lem ∙ ap (λ b. cond b (cond (not (can_say (said s))) 33 0) (read_code s)) other))
 
-  module _ (c : Command) (e : answer_of (Reading.Taken c) ≡ read_of s) where
+  module _ (c : Command) (e : answer_of (Ok c) ≡ read_of s) where
     read_none : read_code s ≡ 0
     unfolding read_of
     read_none = sym (ap (λ (a : Answer). a.told.code) e)

@@ -43,7 +43,7 @@ fn step_into(line: &[u8], buffer: &mut [u8], pos: usize) -> Step
             if buffer.len() < pos {
                 return Step::Gives(n);
             }
-            wire::write_command(command, &mut buffer[pos..]);
+            let _ = wire::write_command(command, &mut buffer[pos..]);
             Step::Gives(n)
         }
     }

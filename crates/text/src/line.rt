@@ -49,8 +49,8 @@ fn judged_line(form: wire::Form, flag: bool, first: u32, second: u32) -> Line
     ensures { answer_line result ≡ judged_line form flag first second }
 {
     match wire::judge_by(wire::row_of(form), flag, first, second) {
-        wire::Judged::Refused(refusal) => Line::Bad(Fault::Wire(refusal)),
-        wire::Judged::Allowed => {
+        Err(refusal) => Line::Bad(Fault::Wire(refusal)),
+        Ok(()) => {
             let kind = wire::kind_of(form, first, second);
             Line::Typed(wire::Command { flag, kind })
         }

@@ -11,7 +11,7 @@ ghost use Rattle.text.specs.ListSteps.{mark, ended_line, offer_of, offered_at, L
 
 use super::findings::{Fault, Translated, no_room};
 use super::goal::{Quarters, quarters_in};
-use wire::{Command, Form, Layout, Reading};
+use wire::{Command, Form, Layout};
 
 // The text of the longest list fits: a line is at most twice as long as its command's bytes.
 const BUFFER: usize = 2 * walk::LONGEST;
@@ -65,8 +65,8 @@ fn offer_at(rest: &[u8]) -> Offer
     ensures { offer_of result ≡ offered_at rest.now }
 {
     match wire::read_command(rest) {
-        Reading::Refused(refusal) => Offer::Bad(Fault::Wire(refusal)),
-        Reading::Taken(command) => {
+        Err(refusal) => Offer::Bad(Fault::Wire(refusal)),
+        Ok(command) => {
             if can_say(command) {
                 Offer::Sayable(command)
             } else {

@@ -1,25 +1,17 @@
 -- What is known of bytes that are accepted: of those that were read with code 0, and of those that were carried out with it.
 use Rattle.std.proofs.Common.{◌≡◌, ℕ, ◌%◌, Bool, true, false, cond, not, ◌||◌, eqb, List, [], ◌∷◌, length, refl, ap₂, eqb-true}
-use mathlib.Core.Bool.{false≢true}
 use borrow.Author.Tests.{not-false}
 use Rattle.words.proofs.Order.{NoneDue}
 use Rattle.words.proofs.Tests.{both}
 use Rattle.valve.specs.declared.Act.{Act}
 use Rattle.valve.specs.declared.state.Valve.{Valve}
-use Rattle.valve.specs.Frame.{word_no, words_in, checksum, zeros, all_zero, same, act_words, arms, fires, frame_at}
+use Rattle.valve.specs.Frame.{word_no, words_in, checksum, zeros, all_zero, act_words, arms, fires, frame_at}
 use Rattle.valve.specs.Answers.{read_checks, read_code}
 use Rattle.valve.specs.State.{act_checks, frame_checks, carry_code}
+use Rattle.valve.proofs.Answers.{same_are}
 use Rattle.valve.proofs.Order.{read_order, carry_order}
 
--- Words that are found the same are the same; words that are all zero are zeros.
-same_are : (ws vs : List ℕ) → same ws vs ≡ true → ws ≡ vs
-same_are [] [] h = refl
-same_are [] (v ∷ vs) h = absurd (false≢true h)
-same_are (w ∷ ws) [] h = absurd (false≢true h)
-same_are (w ∷ ws) (v ∷ vs) h =
-    let parts = both (eqb w v) (same ws vs) h in
-    ap₂ (λ x xs. x ∷ xs) (eqb-true w v parts.0) (same_are ws vs parts.1)
-
+-- Words that are all zero are zeros.
 zero_are : (ws : List ℕ) → all_zero ws ≡ true → ws ≡ zeros (length ws)
 zero_are [] h = refl
 zero_are (w ∷ ws) h =

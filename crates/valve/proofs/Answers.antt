@@ -1,15 +1,17 @@
 -- The answers of the reader and of the writer, one law to an outcome.
-use Rattle.std.proofs.Common.{◌≡◌, ℕ, ◌%◌, ◌<◌, ◌≤◌, true, false, ◌≢◌, List, [], ◌∷◌, ◌++◌, length, drop, sym, refl, ap, ◌∙◌, ap₂, arith, length-append, eq-eqb, ne_eqb, le-leb}
+use Rattle.std.proofs.Common.{◌≡◌, ℕ, ◌%◌, ◌<◌, ◌≤◌, ◌==◌, Bool, true, false, get_or, eqb-true, ◌≢◌, List, [], ◌∷◌, ◌++◌, length, drop, sym, refl, ap, ◌∙◌, ap₂, arith, length-append, eq-eqb, ne_eqb, le-leb}
+use mathlib.Core.Bool.{false≢true}
 use lib.Seq.{sets}
 use borrow.Author.Tests.{lt-leb}
 use Rattle.words.specs.BigEndian.{half_bytes, has_room, written}
 use Rattle.words.specs.Text.{stored_at, place_after}
 use Rattle.words.specs.Codes.{first_of}
 use Rattle.words.proofs.Laws.{sets-written}
+use Rattle.words.proofs.Tests.{both}
 use Rattle.words.proofs.Stores.{laid_first, laid_next}
 use Rattle.valve.specs.declared.Act.{Act}
 use Rattle.valve.specs.declared.Frame.{Frame}
-use Rattle.valve.specs.Frame.{word_no, words_in, bytes_of, checksum, zeros, all_zero, head_of, front_words, bytes_with, frame_bytes, arms, fires, framed, frame_at}
+use Rattle.valve.specs.Frame.{word_no, words_in, bytes_of, checksum, zeros, all_zero, same, act_words, head_of, front_words, bytes_with, frame_bytes, arms, fires, framed, frame_at}
 use Rattle.valve.specs.Answers.{Answer, read_checks, read_code, read_of, write_code}
 
 abbrev pub refused_with : ℕ → Answer
@@ -17,6 +19,26 @@ refused_with code = record { code = code; taken = [] }
 
 abbrev pub taken_as : Frame → Answer
 taken_as f = record { code = 0; taken = f ∷ [] }
+
+-- Words that are found the same are the same.
+pub same_are : (ws vs : List ℕ) → same ws vs ≡ true → ws ≡ vs
+same_are [] [] h = refl
+same_are [] (v ∷ vs) h = absurd (false≢true h)
+same_are (w ∷ ws) [] h = absurd (false≢true h)
+same_are (w ∷ ws) (v ∷ vs) h =
+    let parts = both (w == v) (same ws vs) h in
+    ap₂ (λ x xs. x ∷ xs) (eqb-true w v parts.0) (same_are ws vs parts.1)
+
+pub same_self : (ws : List ℕ) → same ws ws ≡ true
+same_self [] = refl
+same_self (w ∷ ws) = rw (eq-eqb w w refl) (same_self ws)
+
+not_same : {ws vs : List ℕ} → ws ≢ vs → same ws vs ≡ false
+not_same {ws} {vs} differ = go (same ws vs) refl
+  where
+    go : (b : Bool) → same ws vs ≡ b → b ≡ false
+    go true e = absurd (differ (same_are ws vs e))
+    go false e = refl
 
 -- Reading: what the tests so far have found, and what the next one finds.
 module _ (s : List ℕ) where
@@ -67,20 +89,27 @@ module _ (s : List ℕ) where
               let none : first_of (drop 3 (read_checks s)) ≡ first_of (drop 4 (read_checks s)) = rw rest in
               behind_known ∙ none
 
+          -- No act has words 1 to 4; or one has.
+          pub neither : ((act : Act) → words_in s 1 4 ≢ act_words act) → refused_with 44 ≡ read_of s
+          neither none =
+              let no_arming : arms s ≡ false = not_same (none Act.Arm) in
+              let no_firing : fires s ≡ false = not_same (none (Act.Fire (word_no s 4))) in
+              let due : first_of (drop 4 (read_checks s)) ≡ 44 = rw (no_arming, no_firing) in
+              answered 44 (sym (behind_rest ∙ due)) (λ zero. omega arith)
+
           taken : (f : Frame) → first_of (drop 4 (read_checks s)) ≡ 0 → frame_at s ≡ f → taken_as f ≡ read_of s
           unfolding read_of
           taken f none says = sym (rw (behind_rest, none, says))
 
-          pub neither : arms s ≡ false → fires s ≡ false → refused_with 44 ≡ read_of s
-          neither no_arming no_firing =
-              let due : first_of (drop 4 (read_checks s)) ≡ 44 = rw (no_arming, no_firing) in
-              answered 44 (sym (behind_rest ∙ due)) (λ zero. omega arith)
-
-          pub arming : arms s ≡ true → taken_as (framed (word_no s 0) Act.Arm) ≡ read_of s
-          arming is = taken (framed (word_no s 0) Act.Arm) (rw is) (rw is)
-
-          pub firing : arms s ≡ false → fires s ≡ true → taken_as (framed (word_no s 0) (Act.Fire (word_no s 4))) ≡ read_of s
-          firing no_arming is = taken (framed (word_no s 0) (Act.Fire (word_no s 4))) (rw (no_arming, is)) (rw no_arming)
+          pub asking : (act : Act) → words_in s 1 4 ≡ act_words act → taken_as (framed (word_no s 0) act) ≡ read_of s
+          asking Act.Arm says =
+              let is : arms s ≡ true = ap (λ ws. same ws (act_words Act.Arm)) says in
+              taken (framed (word_no s 0) Act.Arm) (rw is) (rw is)
+          asking (Act.Fire code) says =
+              let no_arming : arms s ≡ false = ap (λ ws. same ws (act_words Act.Arm)) says in
+              let own : word_no s 4 ≡ code = ap (λ ws. get_or ws 3 0) says in
+              let is : fires s ≡ true = ap₂ (λ ws c. same ws (act_words (Act.Fire c))) says own ∙ same_self (act_words (Act.Fire code)) in
+              taken (framed (word_no s 0) (Act.Fire code)) (rw (no_arming, is)) (rw (no_arming, own))
 
 -- Writing: the bytes of words one after another; those of a frame are twelve, and zeros behind them.
 bytes_append : (vs ws : List ℕ) → bytes_of (vs ++ ws) ≡ bytes_of vs ++ bytes_of ws

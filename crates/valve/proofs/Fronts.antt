@@ -1,116 +1,89 @@
--- The laws behind the words at the front of a frame: six of them one by one, their sum, and the words of an act among them.
-use Rattle.std.proofs.Common.{◌≡◌, ℕ, suc, ◌+◌, ◌-◌, ◌%◌, ◌<◌, ◌≤◌, Bool, true, false, cond, ◌&&◌, eqb, ◌≢◌, List, [], ◌∷◌, ◌++◌, length, get_or, take, drop, sym, refl, ap, ◌∙◌, add-one, arith, take-suc, eq-eqb, ne_eqb}
-use Rattle.valve.specs.declared.Act.{Act}
-use Rattle.valve.specs.Frame.{word_no, words_in, bytes_of, total, checksum, all_zero, same, act_words, front_words}
+-- The laws behind the words at the front of a frame and the zeros behind them.
+use Rattle.std.proofs.Common.{◌≡◌, ℕ, zero, suc, ◌+◌, ◌%◌, ◌<◌, ◌≤◌, ◌==◌, Bool, true, false, cond, ◌&&◌, List, [], ◌∷◌, length, take, drop, replicate, eqb-true, length-take-le, ◌*◌, ◌-◌, sym, refl, ap, ap₂, ◌∙◌, arith, length-drop, get_or-drop}
+use lib.Seq.{take_all}
+use Rattle.words.proofs.Tests.{both}
+use Rattle.std.specs.List.{fold, list_all}
+use Rattle.words.specs.BigEndian.{byte_at}
+use Rattle.valve.specs.Frame.{word_no, words_in, total, checksum, all_zero}
 
--- Six words, one by one.
-abbrev six_of : List ℕ → List ℕ
-six_of ws = get_or ws 0 0 ∷ get_or ws 1 0 ∷ get_or ws 2 0 ∷ get_or ws 3 0 ∷ get_or ws 4 0 ∷ get_or ws 5 0 ∷ []
+-- A sum that wraps at each word is the sum that wraps at the end.
+fold_wrapping : (ws : List ℕ) (sum : ℕ) → sum < 65536 → fold (λ sum word. (sum + word) % 65536) sum ws ≡ (sum + total ws) % 65536
+fold_wrapping [] sum small = omega (arith, small)
+fold_wrapping (w ∷ ws) sum small = fold_wrapping ws ((sum + w) % 65536) (omega arith) ∙ omega arith
 
-six : (ws : List ℕ) → length ws ≡ 6 → ws ≡ six_of ws
-six [] h = absurd (omega arith)
-six (a ∷ []) h = absurd (omega arith)
-six (a ∷ b ∷ []) h = absurd (omega arith)
-six (a ∷ b ∷ c ∷ []) h = absurd (omega arith)
-six (a ∷ b ∷ c ∷ d ∷ []) h = absurd (omega arith)
-six (a ∷ b ∷ c ∷ d ∷ e ∷ []) h = absurd (omega arith)
-six (a ∷ b ∷ c ∷ d ∷ e ∷ f ∷ []) h = refl
-six (a ∷ b ∷ c ∷ d ∷ e ∷ f ∷ g ∷ ws) h = absurd (omega arith)
+pub checksum-fold : (ws : List ℕ) → fold (λ sum word. (sum + word) % 65536) 0 ws ≡ checksum ws
+checksum-fold ws = fold_wrapping ws 0 (omega arith) ∙ omega arith
 
--- One word more in a sum.
-total_more : (ws : List ℕ) (w : ℕ) → total (ws ++ (w ∷ [])) ≡ total ws + w
-total_more [] w = omega arith
-total_more (v ∷ ws) w = omega (arith, total_more ws w)
+-- A word further on is one of the bytes behind the first two.
+pub word_on : (a b : ℕ) (s : List ℕ) (i : ℕ) → word_no (a ∷ b ∷ s) (suc i) ≡ word_no s i
+word_on a b s i =
+    let high : suc i * 2 ≡ suc (suc (i * 2)) = omega arith in
+    let low : suc i * 2 + 1 ≡ suc (suc (i * 2 + 1)) = omega arith in
+    ap₂ (λ x y. byte_at (a ∷ b ∷ s) x * 256 + byte_at (a ∷ b ∷ s) y) high low
 
-pub sum_more : (ws : List ℕ) (i sum : ℕ) → i < length ws → sum ≡ checksum (take i ws)
-    → (sum + get_or ws i 0) % 65536 ≡ checksum (take (i + 1) ws)
-sum_more ws i sum more is =
-    let next : total (take (i + 1) ws) ≡ total (take i ws) + get_or ws i 0 =
-    rw (add-one, take-suc ws i 0 more) (total_more (take i ws) (get_or ws i 0)) in
-    rw next (omega (arith, is))
+pub words_on : (a b : ℕ) (s : List ℕ) (i n : ℕ) → words_in (a ∷ b ∷ s) (suc i) n ≡ words_in s i n
+words_on a b s i zero = refl
+words_on a b s i (suc n) = ap₂ (λ x xs. x ∷ xs) (word_on a b s i) (words_on a b s (suc i) n)
 
--- The bytes of six words, one by one.
-abbrev twelve_of : List ℕ → List ℕ
-twelve_of ws = bytes_of (six_of ws)
+-- So are words so many words further on.
+word_behind : (s : List ℕ) (k i : ℕ) → word_no (drop (k * 2) s) i ≡ word_no s (k + i)
+word_behind s k i =
+    let high : k * 2 + i * 2 ≡ (k + i) * 2 = omega arith in
+    let low : k * 2 + (i * 2 + 1) ≡ (k + i) * 2 + 1 = omega arith in
+    rw (get_or-drop (k * 2) s (i * 2) 0, get_or-drop (k * 2) s (i * 2 + 1) 0, high, low)
 
-pub six_bytes : (ws : List ℕ) → length ws ≡ 6 → twelve_of ws ≡ bytes_of ws
-six_bytes ws long = ap bytes_of (sym (six ws long))
+words_behind : (s : List ℕ) (k i n : ℕ) → words_in (drop (k * 2) s) i n ≡ words_in s (k + i) n
+words_behind s k i zero = refl
+words_behind s k i (suc n) =
+    let next : k + suc i ≡ suc (k + i) = omega arith in
+    ap₂ ◌∷◌ (word_behind s k i) (words_behind s k (suc i) n ∙ ap (λ j. words_in s j n) next)
 
--- Words 1 to 4 against those of an act, the first that differs and none.
-abbrev four_tests : List ℕ → List ℕ → Bool
-four_tests front asked =
-    eqb (get_or front 1 0) (get_or asked 0 0)
-    && (eqb (get_or front 2 0) (get_or asked 1 0) && (eqb (get_or front 3 0) (get_or asked 2 0) && (eqb (get_or front 4 0) (get_or asked 3 0) && true)))
+-- Each of the words behind the first six is zero exactly when each of their bytes is.
+zero_pair : (a b : ℕ) → (a * 256 + b == 0) ≡ (a == 0 && b == 0)
+zero_pair a b = grind arith
 
-four_tests_lem : (front : List ℕ) (act : Act) → length front ≡ 6 → same (take 4 (drop 1 front)) (act_words act) ≡ four_tests front (act_words act)
-four_tests_lem front Act.Arm long = ap (λ ws. same (take 4 (drop 1 ws)) (act_words Act.Arm)) (six front long)
-four_tests_lem front (Act.Fire code) long = ap (λ ws. same (take 4 (drop 1 ws)) (act_words (Act.Fire code))) (six front long)
+and_assoc : (x y z : Bool) → (x && (y && z)) ≡ ((x && y) && z)
+and_assoc true y z = refl
+and_assoc false y z = refl
 
-module _ (front asked : List ℕ) (act : Act) (long : length front ≡ 6) (own : asked ≡ act_words act) where
-  tests : (b : Bool) → b ≡ four_tests front asked → b ≡ same (take 4 (drop 1 front)) (act_words act)
-  tests b e = e ∙ ap (four_tests front) own ∙ sym (four_tests_lem front act long)
+words_zero : (n : ℕ) (t : List ℕ) → length t ≡ n * 2 → list_all (λ byte. byte == 0) t ≡ all_zero (words_in t 0 n)
+words_zero zero [] long = refl
+words_zero zero (a ∷ t) long = absurd (omega arith)
+words_zero (suc n) [] long = absurd (omega arith)
+words_zero (suc n) (a ∷ []) long = absurd (omega arith)
+words_zero (suc n) (a ∷ b ∷ t) long =
+    ap (λ rest. a == 0 && (b == 0 && rest)) (words_zero n t (omega arith) ∙ ap all_zero (sym (words_on a b t 0 n)))
+    ∙ and_assoc (a == 0) (b == 0) (all_zero (words_in (a ∷ b ∷ t) 1 n))
+    ∙ ap (λ first. first && all_zero (words_in (a ∷ b ∷ t) 1 n)) (sym (zero_pair a b))
 
-  pub differs_1 : get_or front 1 0 ≢ get_or asked 0 0 → false ≡ same (take 4 (drop 1 front)) (act_words act)
-  differs_1 other = tests false (sym (rw (ne_eqb (get_or front 1 0) (get_or asked 0 0) other)))
+rest_of : (s : List ℕ) → length s ≡ 64 → list_all (λ byte. byte == 0) (take (length s - 12) (drop 12 s)) ≡ all_zero (words_in s 6 26)
+rest_of s long =
+    ap (list_all (λ byte. byte == 0)) (take_all (length s - 12) (drop 12 s) (omega (arith, length-drop 12 s)))
+    ∙ words_zero 26 (drop 12 s) (omega (arith, long, length-drop 12 s)) ∙ ap all_zero (words_behind s 6 0 26)
 
-  pub differs_2 : get_or front 1 0 ≡ get_or asked 0 0 → get_or front 2 0 ≢ get_or asked 1 0 → false ≡ same (take 4 (drop 1 front)) (act_words act)
-  differs_2 e1 other = tests false (sym (rw (eq-eqb (get_or front 1 0) (get_or asked 0 0) e1, ne_eqb (get_or front 2 0) (get_or asked 1 0) other)))
+-- So the rest is zeros exactly when its words are zero.
+zeros_are : (bytes : List ℕ) → list_all (λ byte. byte == 0) bytes ≡ true → bytes ≡ replicate (length bytes) 0
+zeros_are [] all = refl
+zeros_are (b ∷ bytes) all =
+    let parts = both (b == 0) (list_all (λ byte. byte == 0) bytes) all in
+    ap₂ ◌∷◌ (eqb-true b 0 parts.0) (zeros_are bytes parts.1)
 
-  pub differs_3 : get_or front 1 0 ≡ get_or asked 0 0 → get_or front 2 0 ≡ get_or asked 1 0 → get_or front 3 0 ≢ get_or asked 2 0
-      → false ≡ same (take 4 (drop 1 front)) (act_words act)
-  differs_3 e1 e2 other =
-      tests false
-      (sym (rw (
-        eq-eqb (get_or front 1 0) (get_or asked 0 0) e1,
-        eq-eqb (get_or front 2 0) (get_or asked 1 0) e2,
-        ne_eqb (get_or front 3 0) (get_or asked 2 0) other,
-      )))
+abbrev pub rest_bytes : List ℕ → List ℕ
+rest_bytes s = take (length s - 12) (drop 12 s)
 
-  pub last_decides : get_or front 1 0 ≡ get_or asked 0 0 → get_or front 2 0 ≡ get_or asked 1 0 → get_or front 3 0 ≡ get_or asked 2 0
-      → eqb (get_or front 4 0) (get_or asked 3 0) ≡ same (take 4 (drop 1 front)) (act_words act)
-  last_decides e1 e2 e3 =
-      tests (eqb (get_or front 4 0) (get_or asked 3 0))
-      (sym (rw (
-        eq-eqb (get_or front 1 0) (get_or asked 0 0) e1,
-        eq-eqb (get_or front 2 0) (get_or asked 1 0) e2,
-        eq-eqb (get_or front 3 0) (get_or asked 2 0) e3,
-      ) (and-true (eqb (get_or front 4 0) (get_or asked 3 0)))))
-    where
-      and-true : (b : Bool) → (b && true) ≡ b
-      and-true true = refl
-      and-true false = refl
+pub rest_zero : (s : List ℕ) → length s ≡ 64 → rest_bytes s ≡ replicate 52 0 → all_zero (words_in s 6 26) ≡ true
+rest_zero s long is = sym (rest_of s long) ∙ ap (list_all (λ byte. byte == 0)) is
 
--- The words from a place of the frame on, the word there first; behind the last one there is none.
-words_on : (s : List ℕ) (i : ℕ) → i < 32 → words_in s i (32 - i) ≡ word_no s i ∷ words_in s (i + 1) (32 - (i + 1))
-words_on s i more =
-    let left : 32 - i ≡ suc (32 - (i + 1)) = omega arith in
-    let next : suc i ≡ i + 1 = omega arith in
-    ap (words_in s i) left ∙ ap (λ j. word_no s i ∷ words_in s j (32 - (i + 1))) next
+pub rest_not_zero : (s : List ℕ) → length s ≡ 64 → (rest_bytes s ≡ replicate 52 0 → ⊥) → all_zero (words_in s 6 26) ≡ false
+rest_not_zero s long differ = go (list_all (λ byte. byte == 0) (rest_bytes s)) refl
+  where
+    go : (b : Bool) → list_all (λ byte. byte == 0) (rest_bytes s) ≡ b → all_zero (words_in s 6 26) ≡ false
+    go true all =
+        let size : length (rest_bytes s) ≡ 52 = length-take-le (length s - 12) (drop 12 s) (omega (arith, length-drop 12 s)) ∙ omega (arith, long) in
+        absurd (differ (zeros_are (rest_bytes s) all ∙ ap (λ n. replicate n 0) size))
+    go false some = sym (rest_of s long) ∙ some
 
-module _ (s : List ℕ) (i : ℕ) where
-  pub not_zero_here : i < 32 → word_no s i ≢ 0 → false ≡ all_zero (words_in s i (32 - i))
-  not_zero_here more other = sym (ap all_zero (words_on s i more) ∙ rw (ne_eqb (word_no s i) 0 other))
-
-  pub zero_here : i < 32 → word_no s i ≡ 0 → all_zero (words_in s (i + 1) (32 - (i + 1))) ≡ all_zero (words_in s i (32 - i))
-  zero_here more is = sym (ap all_zero (words_on s i more) ∙ rw (eq-eqb (word_no s i) 0 is))
-
-  pub none_left : 32 ≤ i → true ≡ all_zero (words_in s i (32 - i))
-  none_left end =
-      let none : 32 - i ≡ 0 = omega arith in
-      rw none
-
--- Words 0 to 5 as the writer makes them: a flag is no more than its bit, and the sum is that of the words before it.
+-- A flag is no more than its bit.
 pub flag_most : (set : Bool) (bit : ℕ) → cond set bit 0 ≤ bit
 flag_most true bit = omega arith
 flag_most false bit = omega arith
-
-abbrev six_with : ℕ → List ℕ → ℕ → List ℕ
-six_with head asked sum = head ∷ get_or asked 0 0 ∷ get_or asked 1 0 ∷ get_or asked 2 0 ∷ get_or asked 3 0 ∷ sum ∷ []
-
-summed_up : (head : ℕ) (act : Act) → six_with head (act_words act) (checksum (take 5 (six_with head (act_words act) 0))) ≡ front_words head act
-summed_up head Act.Arm = refl
-summed_up head (Act.Fire code) = refl
-
-pub front_made : (head : ℕ) (act : Act) (asked : List ℕ) (sum : ℕ) → asked ≡ act_words act → sum ≡ checksum (take 5 (six_with head asked 0))
-    → six_with head asked sum ≡ front_words head act
-front_made head act asked sum own summed = ap (six_with head asked) summed ∙ rw own (summed_up head act)

@@ -1,25 +1,15 @@
 -- The valve's frames can be written as well as read, and come back equal; and no other bytes read as the same frame.
-use Rattle.std.proofs.Common.{◌≡◌, ℕ, zero, suc, ◌+◌, ◌*◌, ◌/◌, ◌%◌, ◌<◌, Bool, true, false, cond, ◌&&◌, eqb, List, [], ◌∷◌, ◌++◌, length, get_or, sym, refl, ap, ◌∙◌, ap₂, arith, eq-eqb, eqb-true}
+use Rattle.std.proofs.Common.{◌≡◌, ℕ, zero, suc, ◌+◌, ◌*◌, ◌/◌, ◌%◌, ◌<◌, Bool, true, false, cond, eqb, List, [], ◌∷◌, ◌++◌, length, get_or, sym, refl, ap, ◌∙◌, ap₂, arith, eqb-true}
 use borrow.Author.Tests.{eqb-false}
-use Rattle.words.specs.BigEndian.{byte_at, half_bytes}
+use Rattle.words.specs.BigEndian.{half_bytes}
 use Rattle.words.proofs.Front.{Bytes, half_back}
 use Rattle.valve.specs.declared.Act.{Act}
 use Rattle.valve.specs.declared.Frame.{Frame}
-use Rattle.valve.specs.Frame.{word_no, words_in, bytes_of, checksum, all_zero, same, act_words, head_of, summed_words, front_words, zeros, bytes_with, frame_bytes, framed, frame_at}
+use Rattle.valve.specs.Frame.{word_no, words_in, bytes_of, checksum, all_zero, head_of, summed_words, front_words, zeros, bytes_with, frame_bytes, framed, frame_at}
 use Rattle.valve.specs.Answers.{Answer, read_code, read_of}
+use Rattle.valve.proofs.Fronts.{word_on, words_on}
 use Rattle.valve.proofs.Accepted.{Accepted, accepted}
-use Rattle.valve.proofs.Answers.{taken_as, bytes_length, arming, firing}
-
--- A word further on is one of the bytes behind the first two.
-word_on : (a b : ℕ) (s : List ℕ) (i : ℕ) → word_no (a ∷ b ∷ s) (suc i) ≡ word_no s i
-word_on a b s i =
-    let high : suc i * 2 ≡ suc (suc (i * 2)) = omega arith in
-    let low : suc i * 2 + 1 ≡ suc (suc (i * 2 + 1)) = omega arith in
-    ap₂ (λ x y. byte_at (a ∷ b ∷ s) x * 256 + byte_at (a ∷ b ∷ s) y) high low
-
-words_on : (a b : ℕ) (s : List ℕ) (i n : ℕ) → words_in (a ∷ b ∷ s) (suc i) n ≡ words_in s i n
-words_on a b s i zero = refl
-words_on a b s i (suc n) = ap₂ (λ x xs. x ∷ xs) (word_on a b s i) (words_on a b s (suc i) n)
+use Rattle.valve.proofs.Answers.{taken_as, bytes_length, asking}
 
 -- Words that were written are read again, each at its place, and so many of them from a place on.
 word_back : (ws : List ℕ) (i : ℕ) → word_no (bytes_of ws) i ≡ get_or ws i 0
@@ -65,25 +55,19 @@ module _ (ocpl quiet : Bool) where
       let s = bytes_of words in
       let head = word_back words 0 in
       sym (
-      arming s (bytes_length (head_of (with Act.Arm)) Act.Arm) (word_back words 5 ∙ ap checksum (sym (words_back words 0 5)))
-      (ap (λ w. w % 16384) head ∙ head_known ocpl quiet)
-      (ap all_zero (words_back words 6 26))
-      (ap (λ ws. same ws (act_words Act.Arm)) (words_back words 1 4))
+      asking s (bytes_length (head_of (with Act.Arm)) Act.Arm) (word_back words 5 ∙ ap checksum (sym (words_back words 0 5)))
+      (ap (λ w. w % 16384) head ∙ head_known ocpl quiet) (ap all_zero (words_back words 6 26)) Act.Arm (words_back words 1 4)
       )
       ∙ ap (λ w. taken_as (framed w Act.Arm)) head ∙ ap taken_as (head_back ocpl quiet Act.Arm)
   back (Act.Fire code) =
       let words = words_of (with (Act.Fire code)) in
       let s = bytes_of words in
       let head = word_back words 0 in
-      let own : (eqb code code && true) ≡ true = rw (eq-eqb code code refl) in
       sym (
-      firing s (bytes_length (head_of (with (Act.Fire code))) (Act.Fire code)) (word_back words 5 ∙ ap checksum (sym (words_back words 0 5)))
-      (ap (λ w. w % 16384) head ∙ head_known ocpl quiet)
-      (ap all_zero (words_back words 6 26))
-      (ap (λ ws. same ws (act_words Act.Arm)) (words_back words 1 4))
-      (ap₂ (λ ws w. same ws (act_words (Act.Fire w))) (words_back words 1 4) (word_back words 4) ∙ own)
+      asking s (bytes_length (head_of (with (Act.Fire code))) (Act.Fire code)) (word_back words 5 ∙ ap checksum (sym (words_back words 0 5)))
+      (ap (λ w. w % 16384) head ∙ head_known ocpl quiet) (ap all_zero (words_back words 6 26)) (Act.Fire code) (words_back words 1 4)
       )
-      ∙ ap₂ (λ w c. taken_as (framed w (Act.Fire c))) head (word_back words 4) ∙ ap taken_as (head_back ocpl quiet (Act.Fire code))
+      ∙ ap (λ w. taken_as (framed w (Act.Fire code))) head ∙ ap taken_as (head_back ocpl quiet (Act.Fire code))
 
 pub read_written : (f : Frame) → read_of (frame_bytes f) ≡ taken_as f
 read_written f = back f.ocpl f.quiet f.act

@@ -1,14 +1,15 @@
 -- Two results that a promise allows are equal: from what a promise says of a result, the result can be had back.
-use Rattle.std.proofs.Common.{◌≡◌, ℕ, cond, eqb, List, [], ◌∷◌, refl, ap}
+use Rattle.std.proofs.Common.{◌≡◌, ℕ, ◌==◌, ne_eqb, cond, eqb, List, [], ◌∷◌, refl, ap}
 use Rattle.words.proofs.Laws.{one_to_one}
 use Rattle.valve.specs.declared.Frame.{Frame}
-use Rattle.valve.specs.declared.Refusal.{Refusal}
-use Rattle.valve.specs.declared.Reading.{Reading}
-use Rattle.valve.specs.declared.Writing.{Writing}
-use Rattle.valve.specs.declared.state.Verdict.{Verdict}
-use Rattle.valve.specs.declared.state.Carried.{Carried}
+use Rattle.valve.specs.declared.refusal.Refusal.{Refusal}
+use Rattle.valve.specs.declared.state.Valve.{Valve}
+use Rattle.words.specs.declared.codes.NoRoom.{NoRoom}
+use Rattle.words.specs.Codes.{answer_code}
+use Rattle.std.specs.Prelude.{Result, Ok, Err, if◌then◌else◌}
 use Rattle.valve.specs.Answers.{Answer, code_of, answer_of, wrote_of}
-use Rattle.valve.specs.State.{Outcome, verdict_of, outcome_of}
+use Rattle.valve.specs.State.{Outcome, outcome_of}
+use Rattle.valve.proofs.States.{some_code}
 
 -- The refusal with a code.
 abbrev refusal_of : ℕ → Refusal
@@ -33,53 +34,42 @@ pub one_refusal : (x y : Refusal) → code_of x ≡ code_of y → x ≡ y
 one_refusal = one_to_one code_of refusal_of refusal_back
 
 -- The reading with an answer.
-abbrev reading_of : Answer → Reading
+abbrev reading_of : Answer → Result Frame Refusal
 reading_of a = from a.taken
   where
-    from : List Frame → Reading
-    from [] = Reading.Refused (refusal_of a.code)
-    from (f ∷ fs) = Reading.Taken f
+    from : List Frame → Result Frame Refusal
+    from [] = Err (refusal_of a.code)
+    from (f ∷ fs) = Ok f
 
-reading_back : (r : Reading) → reading_of (answer_of r) ≡ r
-reading_back (Reading.Taken f) = refl
-reading_back (Reading.Refused refusal) = ap Reading.Refused (refusal_back refusal)
+reading_back : (r : Result Frame Refusal) → reading_of (answer_of r) ≡ r
+reading_back (Ok f) = refl
+reading_back (Err refusal) = ap Err (refusal_back refusal)
 
 -- No two readings say the same: `read_frame` has one result.
-pub one_reading : (x y : Reading) → answer_of x ≡ answer_of y → x ≡ y
+pub one_reading : (x y : Result Frame Refusal) → answer_of x ≡ answer_of y → x ≡ y
 one_reading = one_to_one answer_of reading_of reading_back
 
 -- The writing with a code.
-abbrev writing_of : ℕ → Writing
-writing_of code = cond (eqb code 0) Writing.Written Writing.NoRoom
+abbrev writing_of : ℕ → Result Unit NoRoom
+writing_of code = if code == 0 then Ok tt else Err (record {})
 
-writing_back : (w : Writing) → writing_of (wrote_of w) ≡ w
-writing_back Writing.Written = refl
-writing_back Writing.NoRoom = refl
+writing_back : (w : Result Unit NoRoom) → writing_of (wrote_of w) ≡ w
+writing_back (Ok w) = refl
+writing_back (Err refused) = refl
 
 -- No two writings say the same: `write_frame` has one result.
-pub one_writing : (x y : Writing) → wrote_of x ≡ wrote_of y → x ≡ y
+pub one_writing : (x y : Result Unit NoRoom) → wrote_of x ≡ wrote_of y → x ≡ y
 one_writing = one_to_one wrote_of writing_of writing_back
 
--- The verdict with a code, and what was carried out with an outcome.
-abbrev verdict_with : ℕ → Verdict
-verdict_with code = cond (eqb code 0) Verdict.Accepted (Verdict.Refused (refusal_of code))
+-- The answer with a code.
+abbrev answer_with : ℕ → Result Unit Refusal
+answer_with code = if code == 0 then Ok tt else Err (refusal_of code)
 
-verdict_back : (v : Verdict) → verdict_with (verdict_of v) ≡ v
-verdict_back Verdict.Accepted = refl
-verdict_back (Verdict.Refused Refusal.WrongSize) = refl
-verdict_back (Verdict.Refused Refusal.WrongSum) = refl
-verdict_back (Verdict.Refused Refusal.WrongIdentifier) = refl
-verdict_back (Verdict.Refused Refusal.NotZero) = refl
-verdict_back (Verdict.Refused Refusal.NoPattern) = refl
-verdict_back (Verdict.Refused Refusal.NotArmed) = refl
-verdict_back (Verdict.Refused Refusal.WrongCode) = refl
+answer_back : (x : Result Unit Refusal) → answer_with (answer_code code_of x) ≡ x
+answer_back (Ok x) = refl
+answer_back (Err refusal) = rw (ne_eqb (code_of refusal) 0 (some_code refusal)) (ap Err (refusal_back refusal))
 
-abbrev carried_with : Outcome → Carried
-carried_with o = record { valve = o.valve; verdict = verdict_with o.code }
-
-carried_back : (c : Carried) → carried_with (outcome_of c) ≡ c
-carried_back c = ap (λ (v : Verdict). record { valve = c.valve; verdict = v }) (verdict_back c.verdict)
-
--- No two say the same: `carry_out` has one result.
-pub one_carried : (x y : Carried) → outcome_of x ≡ outcome_of y → x ≡ y
-one_carried = one_to_one outcome_of carried_with carried_back
+-- No two say the same: `carry_out` has one result, and leaves one valve.
+pub one_carried : (v w : Valve) (x y : Result Unit Refusal) → outcome_of v x ≡ outcome_of w y → (v ≡ w) × (x ≡ y)
+one_carried v w x y e =
+    (ap (λ (o : Outcome). o.valve) e, one_to_one (answer_code code_of) answer_with answer_back x y (ap (λ (o : Outcome). o.code) e))

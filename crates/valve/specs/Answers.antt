@@ -1,11 +1,11 @@
 -- 02, Q-7, the codes of frames: "40 not 64 bytes, 41 sum, 42 identifier, 43 words 6-31 not zero, 44 neither pattern (the code apart)"; "24 in writing".
-use Rattle.std.specs.Prelude.{ℕ, ◌%◌, cond, not, ◌||◌, List, [], ◌∷◌, length, ◌==◌}
+use Rattle.std.specs.Prelude.{ℕ, ◌%◌, ◌<◌, cond, not, ◌||◌, List, [], ◌∷◌, length, ◌==◌, Result, Ok, Err}
+use Rattle.std.proofs.Common.{arith}
 use Rattle.words.specs.BigEndian.{has_room}
-use Rattle.words.specs.Codes.{Check, ◌when◌, first_of}
+use Rattle.words.specs.Codes.{Check, ◌when◌, first_of, answer_code}
+use Rattle.words.specs.declared.codes.NoRoom.{NoRoom}
 use Rattle.valve.specs.declared.Frame.{Frame}
-use Rattle.valve.specs.declared.Refusal.{Refusal}
-use Rattle.valve.specs.declared.Reading.{Reading}
-use Rattle.valve.specs.declared.Writing.{Writing}
+use Rattle.valve.specs.declared.refusal.Refusal.{Refusal}
 use Rattle.valve.specs.Frame.{word_no, words_in, checksum, all_zero, identifier, arms, fires, frame_at, frame_bytes}
 
 -- 02's number of each refusal; the last two are the valve's, in State.
@@ -18,14 +18,24 @@ code_of Refusal.NoPattern = 44
 code_of Refusal.NotArmed = 45
 code_of Refusal.WrongCode = 46
 
+-- No refusal has code 0.
+pub code_of_some : (refusal : Refusal) → 0 < code_of refusal
+code_of_some Refusal.WrongSize = omega arith
+code_of_some Refusal.WrongSum = omega arith
+code_of_some Refusal.WrongIdentifier = omega arith
+code_of_some Refusal.NotZero = omega arith
+code_of_some Refusal.NoPattern = omega arith
+code_of_some Refusal.NotArmed = omega arith
+code_of_some Refusal.WrongCode = omega arith
+
 -- What a reading says: a code, and the frame where it is 0.
 pub record Answer : Type 0 where
   pub code : ℕ
   pub taken : List Frame
 
-abbrev pub answer_of : Reading → Answer
-answer_of (Reading.Taken f) = record { code = 0; taken = f ∷ [] }
-answer_of (Reading.Refused refusal) = record { code = code_of refusal; taken = [] }
+abbrev pub answer_of : Result Frame Refusal → Answer
+answer_of (Ok f) = record { code = 0; taken = f ∷ [] }
+answer_of (Err refusal) = record { code = code_of refusal; taken = [] }
 
 -- Frame reading: 40 to 44.
 abbrev pub read_checks : List ℕ → List Check
@@ -45,9 +55,8 @@ unfolding read_code
 read_of s = record { code = read_code s; taken = cond (read_code s == 0) (frame_at s ∷ []) [] }
 
 -- What a writing says.
-abbrev pub wrote_of : Writing → ℕ
-wrote_of Writing.Written = 0
-wrote_of Writing.NoRoom = 24
+abbrev pub wrote_of : Result Unit NoRoom → ℕ
+wrote_of = answer_code (λ _. 24)
 
 -- Frame writing: 24 alone, whatever the flags and the firing code.
 abbrev pub write_checks : Frame → List ℕ → List Check

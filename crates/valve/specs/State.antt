@@ -1,11 +1,10 @@
 -- 02, Q-7, the valve: "on the state, 45 firing when not armed, 46 firing code wrong"; "Status bit 14 means armed, bits 14 and 15 fired. Arming an armed or fired
 -- valve, or firing again, changes nothing."
-use Rattle.std.specs.Prelude.{ℕ, Bool, true, false, cond, not, List, [], ◌∷◌, ◌++◌, ◌==◌}
-use Rattle.words.specs.Codes.{Check, ◌when◌, first_of}
+use Rattle.std.specs.Prelude.{ℕ, Bool, true, false, cond, not, List, [], ◌∷◌, ◌++◌, ◌==◌, Result}
+use Rattle.words.specs.Codes.{Check, ◌when◌, first_of, answer_code}
 use Rattle.valve.specs.declared.Act.{Act}
 use Rattle.valve.specs.declared.state.Valve.{Valve}
-use Rattle.valve.specs.declared.state.Verdict.{Verdict}
-use Rattle.valve.specs.declared.state.Carried.{Carried}
+use Rattle.valve.specs.declared.refusal.Refusal.{Refusal}
 use Rattle.valve.specs.Frame.{firing_code, frame_at}
 use Rattle.valve.specs.Answers.{code_of, read_checks}
 
@@ -42,12 +41,8 @@ pub record Outcome : Type 0 where
   pub code : ℕ
   pub valve : Valve
 
-abbrev pub verdict_of : Verdict → ℕ
-verdict_of Verdict.Accepted = 0
-verdict_of (Verdict.Refused refusal) = code_of refusal
-
-abbrev pub outcome_of : Carried → Outcome
-outcome_of c = record { code = verdict_of c.verdict; valve = c.valve }
+abbrev pub outcome_of : Valve → Result Unit Refusal → Outcome
+outcome_of left answer = record { code = answer_code code_of answer; valve = left }
 
 -- The valve is as it was, unless the code is 0.
 abbrev pub outcome_by : ℕ → Valve → Act → Outcome

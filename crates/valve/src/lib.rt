@@ -1,70 +1,49 @@
-// The gas valve's frame of 64 bytes, 32 words of 16 bits: reading (40 to 44) and writing (24). The valve itself is in `state`.
+//! The gas valve's frame of 64 bytes, 32 words of 16 bits: reading (40 to 44) and writing (24). The valve itself is in `state`.
 #![tactic(auto)]
 
-ghost use Rattle.std.specs.Prelude.{◌≡◌, ◌/◌, ◌%◌, ◌≤◌, length, take, drop, if◌then◌else◌};
+ghost use Rattle.std.specs.List.{flat_map, list_all};
+ghost use Rattle.std.specs.Prelude.{IsTrue, ◌↔◌, replicate, ◌≡◌, ◌==◌, ◌/◌, ◌%◌, ◌≤◌, ◌≢◌, length, take, drop, if◌then◌else◌, IfSome, IsNone};
 ghost use Rattle.std.proofs.lemmas.List.Edits.{sets};
 ghost use Rattle.words.specs.BigEndian.{written};
-ghost use Rattle.valve.specs.Frame.{words_in, checksum, all_zero, same, act_words, head_of, bytes_of, front_words, bytes_with, frame_bytes, framed};
-ghost use Rattle.valve.specs.Answers.{code_of, answer_of, read_of, wrote_of, write_code};
+ghost use Rattle.valve.specs.Frame.{words_in, checksum, act_words, head_of, bytes_of, front_words, bytes_with, frame_bytes, framed};
+ghost use Rattle.valve.specs.declared.Act.{Act};
+ghost use Rattle.valve.specs.Answers.{answer_of, read_of, wrote_of, write_code};
 
+mod refusal;
 mod state;
 
-pub use state::{Carried, Valve, Verdict};
+pub use refusal::Refusal;
+pub use state::Valve;
+use std::array;
+use words::NoRoom;
 
-// What a frame asks of the valve: to arm, or to fire with a code.
-#[derive(Clone, Copy)]
+/// What a frame asks of the valve: to arm, or to fire with a code.
+#[derive(Clone, Copy, Debug, PartialEq, Eq)]
 pub enum Act {
     Arm,
     Fire(u16),
 }
 
-// A frame: the two flags above the identifier, bit 15 and bit 14 of word 0, and what it asks. The sum is no field: the writer makes it.
-#[derive(Clone, Copy)]
+/// A frame: the two flags above the identifier, bit 15 and bit 14 of word 0, and what it asks. The sum is no field: the writer makes it.
+#[derive(Clone, Copy, Debug, PartialEq, Eq)]
 pub struct Frame {
     pub ocpl: bool,
     pub quiet: bool,
     pub act: Act,
 }
 
-#[derive(Clone, Copy)]
-pub enum Refusal {
-    WrongSize,
-    WrongSum,
-    WrongIdentifier,
-    NotZero,
-    NoPattern,
-    NotArmed,
-    WrongCode,
-}
-
-#[derive(Clone, Copy)]
-pub enum Reading {
-    Taken(Frame),
-    Refused(Refusal),
-}
-
-#[derive(Clone, Copy)]
-pub enum Writing {
-    Written,
-    NoRoom,
-}
-
-// The bytes of a frame, and of a word.
+/// The bytes of a frame.
 pub const SIZE: usize = 64;
 
+// The bytes of a word.
 const WORD: usize = 2;
 
-// How many words there are, and how many of them are summed up, word 0 first.
-const WORDS: usize = 32;
+// How many words stand at the front, how many of them are summed up, word 0 first, and the place of the sum. The rest must be zero: so many bytes.
+const FRONT: usize = 6;
 
 const SUMMED: usize = 5;
 
-// The words of the firing code and of the sum, and the first of those that must be zero; and how many bytes these have.
-const CODE: usize = 4;
-
 const SUM: usize = 5;
-
-const REST: usize = 6;
 
 const ZEROS: usize = 52;
 
@@ -80,21 +59,6 @@ const YES: u16 = 0xffff;
 
 const MASK: u16 = 0x0001;
 
-// The code of a refusal.
-pub fn code_of(refusal: Refusal) -> u8
-    ensures { result ≡ code_of refusal }
-{
-    match refusal {
-        Refusal::WrongSize => 40,
-        Refusal::WrongSum => 41,
-        Refusal::WrongIdentifier => 42,
-        Refusal::NotZero => 43,
-        Refusal::NoPattern => 44,
-        Refusal::NotArmed => 45,
-        Refusal::WrongCode => 46,
-    }
-}
-
 // Words 1 to 4 of an act.
 fn words_of(act: Act) -> [u16; 4]
     ensures { result ≡ act_words act }
@@ -105,62 +69,37 @@ fn words_of(act: Act) -> [u16; 4]
     }
 }
 
+// The act whose words stand in words 1 to 4, the firing code as it may be.
+fn asked(front: [u16; 6]) -> Option<Act>
+    ensures some { IfSome result (λ act. take 4 (drop 1 front) ≡ act_words act) }
+    ensures none { IsNone result → (act : Act) → take 4 (drop 1 front) ≢ act_words act }
+{
+    match front {
+        [_, YES, MASK, 0, 0, _] => Some(Act::Arm),
+        [_, 0, 0, YES, code, _] => Some(Act::Fire(code)),
+        _ => None,
+    }
+}
+
 // Words 0 to 5 of some bytes.
 fn front_of(s: &[u8]) -> [u16; 6]
     ensures { result ≡ words_in s.now 0 6 }
 {
-    [
-        words::half_at(s, 0),
-        words::half_at(s, 2),
-        words::half_at(s, 4),
-        words::half_at(s, 6),
-        words::half_at(s, 8),
-        words::half_at(s, 10),
-    ]
+    array::from_fn(|i| words::half_at(s, i * WORD))
 }
 
-// The sum of the first words, in 16 bits.
-fn checksum(front: [u16; 6]) -> u16
-    ensures { result ≡ checksum (take 5 front) }
+// The sum of words, in 16 bits.
+fn checksum(summed: &[u16]) -> u16
+    ensures { result ≡ checksum summed.now }
 {
-    let mut sum: u16 = 0;
-    let mut i = 0;
-    while i < SUMMED {
-        sum = std::num::wrapping_add_u16(sum, front[i]);
-        i += 1;
-    }
-    sum
+    summed.iter().fold(0, |sum, &word| sum.wrapping_add(word))
 }
 
-// Are words 6 to 31 zero?
-fn rest_zero(s: &[u8]) -> bool
-    ensures { result ≡ all_zero (words_in s.now 6 26) }
+// Are these as many zeros as stand behind the front?
+fn all_zero(bytes: &[u8]) -> bool
+    ensures { IsTrue result ↔ (bytes.now ≡ replicate 52 0) }
 {
-    let mut i = REST;
-    while i < WORDS {
-        if words::half_at(s, i * WORD) != 0 {
-            return false;
-        }
-        i += 1;
-    }
-    true
-}
-
-// Are words 1 to 4 those of an act?
-fn says(front: [u16; 6], act: Act) -> bool
-    ensures { result ≡ same (take 4 (drop 1 front)) (act_words act) }
-{
-    let asked = words_of(act);
-    if front[1] != asked[0] {
-        return false;
-    }
-    if front[2] != asked[1] {
-        return false;
-    }
-    if front[3] != asked[2] {
-        return false;
-    }
-    front[4] == asked[3]
+    bytes == [0; ZEROS].as_slice()
 }
 
 // The frame that asks for this, with the flags of word 0.
@@ -174,44 +113,25 @@ fn framed(head: u16, act: Act) -> Frame
     }
 }
 
-// The frame that these bytes are: 40 to 44.
-pub fn read_frame(s: &[u8]) -> Reading
+/// The frame that these bytes are: 40 to 44.
+pub fn read_frame(s: &[u8]) -> Result<Frame, Refusal>
     ensures { answer_of result ≡ read_of s.now }
 {
     if s.len() != SIZE {
-        return Reading::Refused(Refusal::WrongSize);
+        return Err(Refusal::WrongSize);
     }
     let front = front_of(s);
-    if front[SUM] != checksum(front) {
-        return Reading::Refused(Refusal::WrongSum);
+    if front[SUM] != checksum(&front[..SUMMED]) {
+        return Err(Refusal::WrongSum);
     }
     if front[0] % QUIET != IDENTIFIER {
-        return Reading::Refused(Refusal::WrongIdentifier);
+        return Err(Refusal::WrongIdentifier);
     }
-    if !rest_zero(s) {
-        return Reading::Refused(Refusal::NotZero);
+    if !all_zero(&s[FRONT * WORD..]) {
+        return Err(Refusal::NotZero);
     }
-    if says(front, Act::Arm) {
-        return Reading::Taken(framed(front[0], Act::Arm));
-    }
-    let fire = Act::Fire(front[CODE]);
-    if !says(front, fire) {
-        return Reading::Refused(Refusal::NoPattern);
-    }
-    Reading::Taken(framed(front[0], fire))
-}
-
-// The high and the low byte of a word.
-fn high(word: u16) -> u8
-    ensures { result ≡ word / 256 }
-{
-    (word / 256) as u8
-}
-
-fn low(word: u16) -> u8
-    ensures { result ≡ word % 256 }
-{
-    (word % 256) as u8
+    let act = asked(front).ok_or(Refusal::NoPattern)?;
+    Ok(framed(front[0], act))
 }
 
 // A flag in word 0: its bit where it is set.
@@ -225,29 +145,23 @@ fn flag(set: bool, bit: u16) -> u16
 fn front_words(head: u16, act: Act) -> [u16; 6]
     ensures { result ≡ front_words head act }
 {
-    let asked = words_of(act);
-    let mut front = [head, asked[0], asked[1], asked[2], asked[3], 0];
-    front[SUM] = checksum(front);
-    front
+    let [first, second, third, fourth] = words_of(act);
+    let sum = checksum(&[head, first, second, third, fourth]);
+    [head, first, second, third, fourth, sum]
 }
 
-// The bytes of six words.
-fn front_bytes(front: [u16; 6]) -> [u8; 12]
-    ensures { result ≡ bytes_of front }
+// The bytes of six words, the high one first.
+fn front_bytes(front: [u16; 6]) -> [[u8; 2]; 6]
+    ensures { flat_map (λ pair. pair) result ≡ bytes_of front }
 {
+    let [a, b, c, d, e, f] = front;
     [
-        high(front[0]),
-        low(front[0]),
-        high(front[1]),
-        low(front[1]),
-        high(front[2]),
-        low(front[2]),
-        high(front[3]),
-        low(front[3]),
-        high(front[4]),
-        low(front[4]),
-        high(front[5]),
-        low(front[5]),
+        a.to_be_bytes(),
+        b.to_be_bytes(),
+        c.to_be_bytes(),
+        d.to_be_bytes(),
+        e.to_be_bytes(),
+        f.to_be_bytes(),
     ]
 }
 
@@ -264,22 +178,21 @@ fn put_frame(room: &mut [u8], head: u16, act: Act)
     ensures { room.new ≡ sets room.old 0 (bytes_with head act) }
 {
     let front = front_bytes(front_words(head, act));
-    let next = words::put_at(room, 0, &front);
-    words::put_at(room, next, &[0u8; ZEROS]);
+    let next = words::put_at(room, 0, front.as_flattened());
+    words::put_at(room, next, &[0; ZEROS]);
 }
 
-// A frame at the front of a room. Each act has an arm of its own, in which the compiler knows most of the words.
-pub fn write_frame(f: Frame, room: &mut [u8]) -> Writing
+/// A frame at the front of a room. Each act has an arm of its own, in which the compiler knows most of the words.
+pub fn write_frame(f: Frame, room: &mut [u8]) -> Result<(), NoRoom>
     ensures result_value { wrote_of result ≡ write_code f room.old }
     ensures room_after { room.new ≡ written (frame_bytes f) room.old }
 {
     if room.len() < SIZE {
-        return Writing::NoRoom;
+        return Err(NoRoom);
     }
-    let act = f.act;
-    match act {
+    match f.act {
         Act::Arm => put_frame(room, head_of(f), Act::Arm),
         Act::Fire(code) => put_frame(room, head_of(f), Act::Fire(code)),
     }
-    Writing::Written
+    Ok(())
 }

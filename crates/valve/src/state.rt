@@ -1,30 +1,16 @@
-// The valve: safe, armed or fired. A frame's bytes are the one thing that changes it (40 to 46), and its status word says what it is.
-ghost use Rattle.std.specs.Prelude.{◌≡◌};
+//! The valve: safe, armed or fired. A frame's bytes are the one thing that changes it (40 to 46), and its status word says what it is.
+ghost use Rattle.std.specs.Prelude.{◌≡◌, OnErr};
 ghost use Rattle.words.specs.Codes.{first_of};
-ghost use Rattle.valve.specs.Answers.{code_of};
 ghost use Rattle.valve.specs.State.{fresh_valve, is_armed, status_of, act_checks, left_by, outcome_of, outcome_by, carry_out};
 ghost use Rattle.valve.specs.declared.Act.{Act};
 
-use super::{Act, Reading, Refusal, read_frame};
+use super::{Act, Refusal, read_frame};
 
-#[derive(Clone, Copy)]
+#[derive(Clone, Copy, Debug, PartialEq, Eq)]
 pub enum Valve {
     Safe,
     Armed,
     Fired,
-}
-
-#[derive(Clone, Copy)]
-pub enum Verdict {
-    Accepted,
-    Refused(Refusal),
-}
-
-// A frame carried out: the valve afterwards, and the verdict.
-#[derive(Clone, Copy)]
-pub struct Carried {
-    pub valve: Valve,
-    pub verdict: Verdict,
 }
 
 // The code that fires.
@@ -42,7 +28,7 @@ impl Valve {
         Valve::Safe
     }
 
-    // The status word.
+    /// The status word.
     pub fn status(self) -> u16
         ensures { result ≡ status_of self }
     {
@@ -57,11 +43,7 @@ impl Valve {
     fn is_armed(self) -> bool
         ensures { result ≡ is_armed self }
     {
-        match self {
-            Valve::Safe => false,
-            Valve::Armed => true,
-            Valve::Fired => true,
-        }
+        matches!(self, Valve::Armed | Valve::Fired)
     }
 
     // What arming makes of it.
@@ -69,60 +51,31 @@ impl Valve {
         ensures { result ≡ left_by self Act.Arm }
     {
         match self {
-            Valve::Safe => Valve::Armed,
-            Valve::Armed => Valve::Armed,
+            Valve::Safe | Valve::Armed => Valve::Armed,
             Valve::Fired => Valve::Fired,
         }
     }
 
-    fn refused(self, refusal: Refusal) -> Carried
-        ensures { outcome_of result ≡ record { code = code_of refusal; valve = self } }
+    // What an act leaves: 45, then 46.
+    fn obey(&mut self, act: Act) -> Result<(), Refusal>
+        ensures outcome { outcome_of self.new result ≡ outcome_by (first_of (act_checks self.old act)) self.old act }
+        ensures kept { OnErr result (self.new ≡ self.old) }
     {
-        Carried {
-            valve: self,
-            verdict: Verdict::Refused(refusal),
-        }
+        *self = match act {
+            Act::Arm => self.armed(),
+            Act::Fire(_) if !self.is_armed() => return Err(Refusal::NotArmed),
+            Act::Fire(code) if code != FIRING => return Err(Refusal::WrongCode),
+            Act::Fire(_) => Valve::Fired,
+        };
+        Ok(())
     }
 
-    // Firing with a code: 45, then 46.
-    fn fired(self, code: u16) -> Carried
-        ensures { outcome_of result ≡ outcome_by (first_of (act_checks self (Act.Fire code))) self (Act.Fire code) }
+    /// Carries out the frame that these bytes are: 40 to 44, then 45 and 46.
+    pub fn carry_out(&mut self, s: &[u8]) -> Result<(), Refusal>
+        ensures outcome { outcome_of self.new result ≡ carry_out self.old s.now }
+        ensures kept { OnErr result (self.new ≡ self.old) }
     {
-        if !self.is_armed() {
-            return self.refused(Refusal::NotArmed);
-        }
-        if code != FIRING {
-            return self.refused(Refusal::WrongCode);
-        }
-        Carried {
-            valve: Valve::Fired,
-            verdict: Verdict::Accepted,
-        }
-    }
-
-    // What a frame asks.
-    fn obeyed(self, act: Act) -> Carried
-        ensures { outcome_of result ≡ outcome_by (first_of (act_checks self act)) self act }
-    {
-        match act {
-            Act::Arm => Carried {
-                valve: self.armed(),
-                verdict: Verdict::Accepted,
-            },
-            Act::Fire(code) => self.fired(code),
-        }
-    }
-
-    // The frame that these bytes are: 40 to 44, then 45 and 46.
-    pub fn carry_out(self, s: &[u8]) -> Carried
-        ensures { outcome_of result ≡ carry_out self s.now }
-    {
-        match read_frame(s) {
-            Reading::Refused(refusal) => self.refused(refusal),
-            Reading::Taken(frame) => {
-                let act = frame.act;
-                self.obeyed(act)
-            }
-        }
+        let frame = read_frame(s)?;
+        self.obey(frame.act)
     }
 }

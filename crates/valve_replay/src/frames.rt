@@ -3,97 +3,77 @@
 use super::items::State;
 use script::rooms::FILL;
 use script::{Place, output, rooms};
-use valve::{Act, Carried, Frame, Reading, Refusal, Verdict, Writing};
+use valve::{Act, Frame, Refusal, Valve};
+use words::Code;
 
-// The code of a writing that has too little room, its only refusal.
-const NO_ROOM: u8 = 24;
-
-fn refused(out: &mut [u8], used: usize, refusal: Refusal) -> usize {
-    output::number(out, used, valve::code_of(refusal) as u64)
-}
-
-// The code of carrying a frame out.
-fn verdict_code(out: &mut [u8], used: usize, verdict: Verdict) -> usize {
-    match verdict {
-        Verdict::Accepted => output::number(out, used, 0),
-        Verdict::Refused(refusal) => refused(out, used, refusal),
-    }
+// A code, which is that of the answer as a whole.
+fn code<T, E: Code>(out: &mut [u8], used: usize, answer: &Result<T, E>) -> usize {
+    output::number(out, used, u64::from(words::code_of(answer)))
 }
 
 // A status word, four hex digits.
 fn status(out: &mut [u8], used: usize, word: u16) -> usize {
-    let bytes = [(word / 256) as u8, (word % 256) as u8];
-    output::hex(out, used, &bytes)
+    output::hex(out, used, &word.to_be_bytes())
 }
 
-fn carried_line(out: &mut [u8], used: usize, carried: Carried) -> usize {
-    let verdict = carried.verdict;
-    let valve = carried.valve;
+fn carried_line(out: &mut [u8], used: usize, answer: &Result<(), Refusal>, valve: Valve) -> usize {
     let used = output::text(out, used, b"valve");
-    let used = verdict_code(out, used, verdict);
+    let used = code(out, used, answer);
     let used = status(out, used, valve.status());
     output::end(out, used)
 }
 
 // 01, the bytes of a frame: `valve CODE STATUS`, with the status word of the valve afterwards.
 pub fn carry_out(state: State, s: &[u8], out: &mut [u8]) -> State {
-    let valve = state.valve;
+    let mut valve = state.valve;
     let place = state.place;
     let bytes = script::take_short(s, place.at);
     if !bytes.whole {
         return state.went_on(place.bad(out));
     }
-    let carried = valve.carry_out(script::bytes(s, bytes));
-    let used = carried_line(out, place.used, carried);
-    let valve = carried.valve;
+    let answer = valve.carry_out(script::bytes(s, bytes));
+    let used = carried_line(out, place.used, &answer, valve);
     let place = place.answered(bytes.to, used);
     State { valve, place }
 }
 
 // The two flags as one number, 0 to 3.
 fn flags(f: Frame) -> u64 {
-    if f.ocpl {
-        if f.quiet { 3 } else { 2 }
-    } else if f.quiet {
-        1
-    } else {
-        0
-    }
+    u64::from(f.ocpl) * 2 + u64::from(f.quiet)
 }
 
 // The flags, and what the frame asks, the firing code in decimal.
 fn told(out: &mut [u8], used: usize, f: Frame) -> usize {
-    let act = f.act;
     let used = output::number(out, used, flags(f));
-    match act {
+    match f.act {
         Act::Arm => output::text(out, used, b" arm"),
         Act::Fire(code) => {
             let used = output::text(out, used, b" fire");
-            output::number(out, used, code as u64)
+            output::number(out, used, u64::from(code))
         }
     }
 }
 
 // The code of writing a frame and, where that is 0, the bytes written.
 fn written(out: &mut [u8], used: usize, f: Frame, room: &mut [u8]) -> usize {
-    match valve::write_frame(f, room) {
-        Writing::Written => {
-            let used = output::number(out, used, 0);
-            output::hex(out, used, script::front(room, valve::SIZE))
-        }
-        Writing::NoRoom => output::number(out, used, NO_ROOM as u64),
+    let answer = valve::write_frame(f, room);
+    let used = code(out, used, &answer);
+    match answer {
+        Ok(()) => output::hex(out, used, script::front(room, valve::SIZE)),
+        Err(_) => used,
     }
 }
 
 // The code of reading a frame and, where that is 0, what it says and what writing it gives.
 fn taken(out: &mut [u8], used: usize, bytes: &[u8], room: &mut [u8]) -> usize {
-    match valve::read_frame(bytes) {
-        Reading::Taken(f) => {
-            let used = output::number(out, used, 0);
+    let answer = valve::read_frame(bytes);
+    let used = code(out, used, &answer);
+    match answer {
+        Ok(f) => {
             let used = told(out, used, f);
             written(out, used, f, room)
         }
-        Reading::Refused(refusal) => refused(out, used, refusal),
+        Err(_) => used,
     }
 }
 

@@ -11,10 +11,11 @@ use script::output;
 // Takes one item after another until the script ends or an item is bad. Each item takes a byte at least, so the script's length bounds the turns.
 fn replay(s: &[u8], out: &mut [u8]) {
     let mut state = State::fresh();
-    let mut turns = s.len();
-    while 0 < turns && state.goes_on(s) {
+    for _ in s {
+        if !state.goes_on(s) {
+            break;
+        }
         state = items::item(state, s, out);
-        turns -= 1;
     }
     let place = state.place;
     output::flush(out, place.used);

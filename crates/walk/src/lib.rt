@@ -2,6 +2,8 @@
 #![tactic(auto)]
 
 ghost use Rattle.std.specs.Prelude.{◌≡◌};
+ghost use Rattle.std.specs.Iterator.{YieldsFirstRef, item_count};
+ghost use Rattle.walk.specs.Walk.{rests};
 ghost use Rattle.walk.specs.Shown.{start_of, bytes_at, command_of, shown_of, asked_of, offset_to, offset_of, slice_of, Placed};
 
 // The longest list that is taken, in bytes.
@@ -11,6 +13,37 @@ pub const KIT: u8 = 1;
 
 pub const PUPIL: u8 = 2;
 
+// The commands of a list in turn, each as all that is left of the list from it on.
+#[derive(Clone, Copy)]
+pub struct Commands<'a> {
+    pub left: &'a [u8],
+}
+
+impl<'a> Commands<'a> {
+    pub fn new(list: &'a [u8]) -> Commands<'a>
+        ensures { result.left ≡ list.entry }
+    {
+        Commands { left: list }
+    }
+}
+
+impl<'a> Iterator for Commands<'a> {
+    type Item = &'a [u8];
+
+    ghost next_gives = { YieldsFirstRef (λ s. rests s.left.now) };
+
+    ghost remaining = { item_count (λ s. rests s.left.now) };
+
+    fn next(&mut self) -> Option<&'a [u8]> {
+        let here = self.left;
+        if here.is_empty() {
+            return None;
+        }
+        self.left = &here[wire::span(here)..];
+        Some(here)
+    }
+}
+
 // Where command `number`, from 1, begins; the list's length where it has no such command.
 fn start_of(s: &[u8], number: u32) -> usize
     ensures { result ≡ start_of s.now number }
@@ -18,17 +51,10 @@ fn start_of(s: &[u8], number: u32) -> usize
     if number == 0 {
         return s.len();
     }
-    let mut at: usize = 0;
-    let mut passed: u32 = 0;
-    // Each turn passes a byte at least, so the list's length bounds the turns, whatever the number.
-    while at < s.len() {
-        if passed == number - 1 {
-            return at;
-        }
-        at += wire::span(&s[at..]);
-        passed += 1;
+    match Commands::new(s).nth(number as usize - 1) {
+        Some(rest) => s.len() - rest.len(),
+        None => s.len(),
     }
-    at
 }
 
 // The number to look up: 0, which no command has, where either list is too long or the sender is neither of the two.

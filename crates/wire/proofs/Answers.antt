@@ -14,16 +14,14 @@ use Rattle.words.proofs.Tests.{neither}
 use Rattle.words.proofs.Order.{due_none}
 use Rattle.wire.specs.declared.table.Form.{Form}
 use Rattle.wire.specs.declared.table.Row.{Row}
-use Rattle.wire.specs.declared.table.Found.{Found}
+use Rattle.std.specs.Prelude.{Option, Some, None}
 use Rattle.wire.specs.declared.kinds.Kind.{Kind}
 use Rattle.wire.specs.declared.kinds.Command.{Command}
 use Rattle.wire.specs.declared.kinds.Parts.{Parts}
 use Rattle.wire.specs.declared.judging.Refusal.{Refusal}
 use Rattle.wire.specs.declared.judging.Told.{Told}
-use Rattle.wire.specs.declared.judging.Judged.{Judged}
-use Rattle.wire.specs.declared.decoding.Reading.{Reading}
+use Rattle.std.specs.Prelude.{Ok, Err}
 use Rattle.wire.specs.declared.decoding.Fields.{Fields}
-use Rattle.wire.specs.declared.decoding.Reach.{Reach}
 use Rattle.wire.specs.Table.{row_of, rule_of}
 use Rattle.wire.specs.Kind.{kind_of}
 use Rattle.wire.specs.Judge.{plain, told_of, told_judged, judged_by, part_checks, told_for}
@@ -88,29 +86,29 @@ module _ (form : Form) (flag : Bool) (one two : ℕ) (row : Row) (fields : Field
   same_judged = rw (is_row, same_fields)
 
   pub then_allowed : fields.pad ≡ 0 → (kind : Kind) → kind ≡ kind_of form fields.first fields.second
-      → told_judged Judged.Allowed ≡ judged_by row flag fields.first fields.second
-      → answer_of (Reading.Taken (record { flag = flag; kind = kind })) ≡ decoded_as form flag one two
+      → told_judged (Ok tt) ≡ judged_by row flag fields.first fields.second
+      → answer_of (Ok (record { flag = flag; kind = kind })) ≡ decoded_as form flag one two
   then_allowed no_pad kind made e =
       let same : record { flag = flag; kind = kind } ≡ command_as form flag one two = rw (made, same_fields) in
       rw same (allowed code parts (command_as form flag one two) (e ∙ same_judged)) ∙ sym (pad_passed no_pad)
 
-  pub then_refused : fields.pad ≡ 0 → (r : Refusal) → told_judged (Judged.Refused r) ≡ judged_by row flag fields.first fields.second
-      → answer_of (Reading.Refused r) ≡ decoded_as form flag one two
+  pub then_refused : fields.pad ≡ 0 → (r : Refusal) → told_judged (Err r) ≡ judged_by row flag fields.first fields.second
+      → answer_of (Err r) ≡ decoded_as form flag one two
   then_refused no_pad r e = refused r code parts (command_as form flag one two) (e ∙ same_judged) ∙ sym (pad_passed no_pad)
 
 -- Rows 5 and 6, from what was found for the opcode.
 module _ (opcode : ℕ) (flag : Bool) (words one two : ℕ) where
-  abbrev from_found : Found → Answer
+  abbrev from_found : Option (Form × ℕ) → Answer
   from_found found =
       let form = form_in found in
       answer_for (first_of (decode_checks found flag words one two)) (parts_as form one two) (command_as form flag one two)
 
-  from_found_lem : (found : Found) → found ≡ rule_of opcode → from_found found ≡ decoded opcode flag words one two
+  from_found_lem : (found : Option (Form × ℕ)) → found ≡ rule_of opcode → from_found found ≡ decoded opcode flag words one two
   unfolding decoded
   from_found_lem found e = ap from_found e
 
-  pub unknown_refused : Found.Unknown ≡ rule_of opcode → refused_by (plain 5) ≡ decoded opcode flag words one two
-  unknown_refused e = from_found_lem Found.Unknown e
+  pub unknown_refused : None ≡ rule_of opcode → refused_by (plain 5) ≡ decoded opcode flag words one two
+  unknown_refused e = from_found_lem None e
 
   sized : (same : Bool) (form : Form)
       → cond same (decoded_as form flag one two) (refused_by (plain 6))
@@ -119,11 +117,11 @@ module _ (opcode : ℕ) (flag : Bool) (words one two : ℕ) where
   sized true form = refl
   sized false form = refl
 
-  pub known_decoded : (form : Form) (n : ℕ) → Found.Known form n ≡ rule_of opcode
+  pub known_decoded : (form : Form) (n : ℕ) → Some (form, n) ≡ rule_of opcode
       → cond (eqb words n) (decoded_as form flag one two) (refused_by (plain 6)) ≡ decoded opcode flag words one two
-  known_decoded form n e = sized (eqb words n) form ∙ from_found_lem (Found.Known form n) e
+  known_decoded form n e = sized (eqb words n) form ∙ from_found_lem (Some (form, n)) e
 
-  pub length_passed : (form : Form) (n : ℕ) → Found.Known form n ≡ rule_of opcode → words ≡ n
+  pub length_passed : (form : Form) (n : ℕ) → Some (form, n) ≡ rule_of opcode → words ≡ n
       → decoded_as form flag one two ≡ decoded opcode flag words one two
   length_passed form n e h = simp (eq-eqb words n h) at (known_decoded form n e)
 
@@ -176,19 +174,19 @@ goes s e =
 
 -- What the code holds of the reach, for the reader and for the span.
 module _ (s : List ℕ) where
-  ends_code : (r : Refusal) → reach_of (Reach.Ends r) ≡ reach_at s → (told_of r ≡ plain (reach_code s)) × (eqb (reach_code s) 0 ≡ false)
+  ends_code : (r : Refusal) → reach_of (Err r) ≡ reach_at s → (told_of r ≡ plain (reach_code s)) × (eqb (reach_code s) 0 ≡ false)
   unfolding reach_at
   ends_code r e =
       let same : told_of r ≡ plain (reach_code s) = ap (λ (a : Reached). a.told) e in
       (same, rw (ap (λ (t : Told). t.code) same) at (refusal_code r))
 
-  pub goes_code : (n : ℕ) → reach_of (Reach.Words n) ≡ reach_at s → (reach_code s ≡ 0) × (n ≡ length_of s)
+  pub goes_code : (n : ℕ) → reach_of (Ok n) ≡ reach_at s → (reach_code s ≡ 0) × (n ≡ length_of s)
   unfolding reach_at
   goes_code n e =
       let zero : reach_code s ≡ 0 = sym (ap (λ (a : Reached). a.told.code) e) in
       (zero, simp (eq-eqb (reach_code s) 0 zero) at (ap (λ (a : Reached). a.words) e))
 
-  pub read_ends : (r : Refusal) → reach_of (Reach.Ends r) ≡ reach_at s → refused_by (told_of r) ≡ read_of s
+  pub read_ends : (r : Refusal) → reach_of (Err r) ≡ reach_at s → refused_by (told_of r) ≡ read_of s
   unfolding read_of
   read_ends r e =
       let code = ends_code r e in
@@ -196,22 +194,22 @@ module _ (s : List ℕ) where
       ∙ ends (ltb (length s) 8) (ltb (length_of s) 2 || ltb 32 (length_of s)) (ltb (length s) (length_of s * 4)) (whole_checks s (length_of s))
       (said_parts s) (said s) code.1
 
-  pub read_goes : (n : ℕ) → reach_of (Reach.Words n) ≡ reach_at s → read_whole s n ≡ read_of s
+  pub read_goes : (n : ℕ) → reach_of (Ok n) ≡ reach_at s → read_whole s n ≡ read_of s
   unfolding read_of read_whole
   read_goes n e =
       let at = goes_code n e in
       rw (at.1, goes s at.0)
 
-  pub goes_within : (n : ℕ) → reach_of (Reach.Words n) ≡ reach_at s → (2 ≤ n) × (n ≤ 32)
+  pub goes_within : (n : ℕ) → reach_of (Ok n) ≡ reach_at s → (2 ≤ n) × (n ≤ 32)
   goes_within n e =
       let at = goes_code n e in
       let far = reaches s at.0 in
       omega (arith, at.1)
 
-  pub span_ends : (r : Refusal) → reach_of (Reach.Ends r) ≡ reach_at s → length s ≡ span_of s
+  pub span_ends : (r : Refusal) → reach_of (Err r) ≡ reach_at s → length s ≡ span_of s
   unfolding span_of
   span_ends r e = rw (ends_code r e).1
 
-  pub span_goes : (n : ℕ) → reach_of (Reach.Words n) ≡ reach_at s → n * 4 ≡ span_of s
+  pub span_goes : (n : ℕ) → reach_of (Ok n) ≡ reach_at s → n * 4 ≡ span_of s
   unfolding span_of
   span_goes n e = rw (eq-eqb (reach_code s) 0 (goes_code n e).0, (goes_code n e).1)

@@ -10,7 +10,7 @@ use lib.Ieee.{binary32, of_bits, to_bits}
 use borrow.Author.Tests.{eqb-true}
 use Rattle.wire.specs.declared.table.Form.{Form}
 use Rattle.wire.specs.declared.table.Layout.{Layout}
-use Rattle.wire.specs.declared.table.Found.{Found}
+use Rattle.std.specs.Prelude.{Option, Some, None}
 use Rattle.wire.specs.Table.{row_of, guide_forms, macro_forms, look_up, macro_rule_of, rule_of}
 use Rattle.wire.specs.Kind.{parts_with, parts_of, kind_of}
 use Rattle.wire.specs.Read.{fields_with, fields_of}
@@ -50,7 +50,7 @@ form_words Form.Stop = refl
 form_words Form.Clear = refl
 
 -- The opcode of each form finds that form.
-pub form_found : (form : Form) → rule_of (row_of form).opcode ≡ Found.Known form (row_of form).words
+pub form_found : (form : Form) → rule_of (row_of form).opcode ≡ Some (form, (row_of form).words)
 form_found Form.ImgPwr = refl
 form_found Form.ImgRegion = refl
 form_found Form.ImgTrack = refl
@@ -71,23 +71,24 @@ form_found Form.Clear = refl
 abbrev pub Named : ℕ → Form → ℕ → Type 0
 Named opcode form n = (opcode ≡ (row_of form).opcode) × (n ≡ (row_of form).words)
 
-found_in : (opcode : ℕ) (fs : List Form) (otherwise : Found) (form : Form) (n : ℕ) → (otherwise ≡ Found.Known form n → Named opcode form n)
-    → look_up opcode fs otherwise ≡ Found.Known form n → Named opcode form n
+found_in : (opcode : ℕ) (fs : List Form) (otherwise : Option (Form × ℕ)) (form : Form) (n : ℕ) → (otherwise ≡ Some (form, n) → Named opcode form n)
+    → look_up opcode fs otherwise ≡ Some (form, n) → Named opcode form n
 found_in opcode [] otherwise form n h e = h e
 found_in opcode (f ∷ fs) otherwise form n h e = go (eqb opcode (row_of f).opcode) refl e (found_in opcode fs otherwise form n h)
   where
-    go : (b : Bool) → eqb opcode (row_of f).opcode ≡ b → cond b (Found.Known f (row_of f).words) (look_up opcode fs otherwise) ≡ Found.Known form n
-        → (look_up opcode fs otherwise ≡ Found.Known form n → Named opcode form n) → Named opcode form n
+    go : (b : Bool) → eqb opcode (row_of f).opcode ≡ b → cond b (Some (f, (row_of f).words)) (look_up opcode fs otherwise) ≡ Some (form, n)
+        → (look_up opcode fs otherwise ≡ Some (form, n) → Named opcode form n) → Named opcode form n
     go true is same more =
-        let this : f ≡ form = cc in
-        let long : (row_of f).words ≡ n = cc in
+        let pair : ◌≡◌ {A = Form × ℕ} (f, (row_of f).words) (form, n) = cc in
+        let this : f ≡ form = ap (λ p. p.0) pair in
+        let long : (row_of f).words ≡ n = ap (λ p. p.1) pair in
         (eqb-true opcode (row_of f).opcode is ∙ ap (λ g. (row_of g).opcode) this, sym long ∙ ap (λ g. (row_of g).words) this)
     go false is same more = more same
 
-pub found_form : (opcode : ℕ) (form : Form) (n : ℕ) → rule_of opcode ≡ Found.Known form n → Named opcode form n
+pub found_form : (opcode : ℕ) (form : Form) (n : ℕ) → rule_of opcode ≡ Some (form, n) → Named opcode form n
 found_form opcode form n e =
     found_in opcode guide_forms (macro_rule_of opcode) form n
-    (found_in opcode macro_forms Found.Unknown form n (λ z. absurd (let no_form : ◌≡◌ {A = ℕ} 0 1 = cc in omega arith))) e
+    (found_in opcode macro_forms None form n (λ z. absurd (let no_form : ◌≡◌ {A = ℕ} 0 1 = cc in omega arith))) e
 
 -- The bits of a single: those that the single read from them has.
 abbrev pub IsBits : ℕ → Type 0

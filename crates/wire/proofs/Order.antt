@@ -6,7 +6,8 @@ use mathlib.Core.Bool.{true}
 use Rattle.words.specs.BigEndian.{word_at}
 use Rattle.words.specs.Codes.{Check, ◌when◌}
 use Rattle.words.proofs.Order.{apart, Order, order}
-use Rattle.wire.specs.declared.table.Found.{Found}
+use Rattle.wire.specs.declared.table.Form.{Form}
+use Rattle.std.specs.Prelude.{Option, Some, None}
 use Rattle.wire.specs.declared.kinds.Command.{Command}
 use Rattle.wire.specs.Table.{rule_of}
 use Rattle.wire.specs.Judge.{arg_checks, judge_code}
@@ -18,12 +19,12 @@ pub read_order : (s : List ℕ) → Order (read_checks s) (read_code s)
 unfolding read_code
 read_order s = order (read_checks s) (go (rule_of (opcode_of s)))
   where
-    later : Found → List Check
+    later : Option (Form × ℕ) → List Check
     later found = 4 when sum_differs s (length_of s) ∷ decode_checks found (flag_of s) (length_of s) (word_at s 4) (third_word s (length_of s))
 
-    go : (found : Found) → apart (reach_checks s ++ later found) ≡ true
-    go (Found.Known form length) = refl
-    go Found.Unknown = refl
+    go : (found : Option (Form × ℕ)) → apart (reach_checks s ++ later found) ≡ true
+    go (Some (form, length)) = refl
+    go None = refl
 
 -- Judging a decoded command: rows 8 to 10.
 pub judge_order : (c : Command) → Order (arg_checks c) (judge_code c)

@@ -15,7 +15,8 @@ use Rattle.words.specs.Codes.{Check, ◌when◌, first_of}
 use Rattle.words.proofs.Tests.{neither}
 use Rattle.words.proofs.Order.{row_at, NoneDue, FirstAt, lacks, apart, first_at, lacks_on, code_lacked, at_first}
 use Rattle.wire.specs.declared.table.Layout.{Layout}
-use Rattle.wire.specs.declared.table.Found.{Found}
+use Rattle.wire.specs.declared.table.Form.{Form}
+use Rattle.std.specs.Prelude.{Option, Some, None}
 use Rattle.wire.specs.declared.kinds.Command.{Command}
 use Rattle.wire.specs.declared.kinds.Parts.{Parts}
 use Rattle.wire.specs.declared.judging.Stray.{Stray}
@@ -246,17 +247,17 @@ range_append parts (row ∷ front) rows h k = (h.0, range_append parts front row
 
 -- Rows 1 to 10 by what was found for the opcode.
 module _ (s : List ℕ) where
-  abbrev found_parts : Found → Parts
+  abbrev found_parts : Option (Form × ℕ) → Parts
   found_parts found = parts_as (form_in found) (word_at s 4) (third_word s (length_of s))
 
-  abbrev found_checks : Found → List Check
+  abbrev found_checks : Option (Form × ℕ) → List Check
   found_checks found =
       reach_checks s ++ (4 when sum_differs s (length_of s) ∷ decode_checks found (flag_of s) (length_of s) (word_at s 4) (third_word s (length_of s)))
 
-  range_found : (found : Found) → RangeRow (found_parts found) (found_checks found)
-  range_found Found.Unknown = range_none (found_parts Found.Unknown) (found_checks Found.Unknown) refl
-  range_found (Found.Known form n) =
-      let found = Found.Known form n in
+  range_found : (found : Option (Form × ℕ)) → RangeRow (found_parts found) (found_checks found)
+  range_found None = range_none (found_parts None) (found_checks None) refl
+  range_found (Some (form, n)) =
+      let found = Some (form, n) in
       let front = take 7 (found_checks found) in
       range_append (found_parts found) front (part_checks (flag_of s) (found_parts found)) (range_none (found_parts found) front refl)
       (range_parts (flag_of s) (found_parts found))
@@ -292,11 +293,11 @@ read_eight s = go (rule_of (opcode_of s))
     never false false false true e = omega arith
     never false false false false e = omega arith
 
-    go : (found : Found) → (first_of (found_checks s found) ≡ 8) ↔ (NoneDue (take 7 (found_checks s found)) × SomeOut (found_parts s found))
-    go (Found.Known form n) =
-        let found = Found.Known form n in
+    go : (found : Option (Form × ℕ)) → (first_of (found_checks s found) ≡ 8) ↔ (NoneDue (take 7 (found_checks s found)) × SomeOut (found_parts s found))
+    go (Some (form, n)) =
+        let found = Some (form, n) in
         eight (found_parts s found) (found_checks s found) 7 (range_found s found) refl (omega arith) refl
-    go Found.Unknown = (
+    go None = (
       λ e. absurd (never (ltb (length s) 8) (ltb (length_of s) 2 || ltb 32 (length_of s)) (ltb (length s) (length_of s * 4)) (sum_differs s (length_of s)) e),
       λ d. absurd (false≢true (sym d.0.1.1.1.1.0)),
     )

@@ -19,7 +19,7 @@ use Rattle.words.proofs.Front.{front_words}
 use Rattle.wire.specs.declared.table.Form.{Form}
 use Rattle.wire.specs.declared.table.Layout.{Layout}
 use Rattle.wire.specs.declared.table.Row.{Row}
-use Rattle.wire.specs.declared.table.Found.{Found}
+use Rattle.std.specs.Prelude.{Option, Some, None}
 use Rattle.wire.specs.declared.kinds.Kind.{Kind}
 use Rattle.wire.specs.declared.kinds.Command.{Command}
 use Rattle.wire.specs.declared.kinds.Parts.{Parts}
@@ -262,10 +262,10 @@ read_passed s read = go (rule_of (opcode_of s)) refl rows.1.1.1.1
     rows : NoneDue (read_checks s)
     rows = (read_order s).accepted.0 read
 
-    go : (found : Found) → rule_of (opcode_of s) ≡ found → NoneDue (decode_checks found (flag_of s) (length_of s) (word_at s 4) (third_word s (length_of s)))
+    go : (found : Option (Form × ℕ)) → rule_of (opcode_of s) ≡ found → NoneDue (decode_checks found (flag_of s) (length_of s) (word_at s 4) (third_word s (length_of s)))
         → Passed s
-    go Found.Unknown is none = absurd (let never = none.0 in let z : ◌≡◌ {A = ℕ} 0 1 = cc in omega arith)
-    go (Found.Known form n) is none =
+    go None is none = absurd (let never = none.0 in let z : ◌≡◌ {A = ℕ} 0 1 = cc in omega arith)
+    go (Some (form, n)) is none =
         let named = found_form (opcode_of s) form n is in
         record {
           form = form;

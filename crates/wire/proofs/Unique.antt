@@ -1,16 +1,15 @@
 -- 01, "What each promise answers for": two results that one promise allows are equal. The numbers and values that 01 gives to an answer say which
 -- it was.
+use Prim.Native.Nat.{ℕ}
 use mathlib.Core.Path.{◌≡◌, refl, ap}
 use mathlib.Core.List.{[], ◌∷◌}
 use mathlib.Core.Bool.{cond}
 use lib.Dec.{eqb}
 use Rattle.words.proofs.Laws.{one_to_one}
+use Rattle.wire.specs.declared.kinds.Command.{Command}
 use Rattle.wire.specs.declared.judging.Refusal.{Refusal}
 use Rattle.wire.specs.declared.judging.Told.{Told}
-use Rattle.wire.specs.declared.judging.Judged.{Judged}
-use Rattle.wire.specs.declared.decoding.Reading.{Reading}
-use Rattle.wire.specs.declared.decoding.Reach.{Reach}
-use Rattle.wire.specs.declared.encoding.Writing.{Writing}
+use Rattle.std.specs.Prelude.{Result, Ok, Err}
 use Rattle.wire.specs.Judge.{told_of, told_judged}
 use Rattle.wire.specs.Read.{Answer, answer_of}
 use Rattle.wire.specs.Write.{Wrote, wrote_of}
@@ -56,45 +55,45 @@ told_back : {A : Type 0} (r : Refusal) (accepted : A) (refused : Refusal → A) 
 told_back r accepted refused = rw (refusal_code r, refusal_back r)
 
 -- Two judgements of which the same is told are the same.
-pub one_judged : (a b : Judged) → told_judged a ≡ told_judged b → a ≡ b
+pub one_judged : (a b : Result (Unit {0}) Refusal) → told_judged a ≡ told_judged b → a ≡ b
 one_judged = one_to_one told_judged judged_of back
   where
-    judged_of : Told → Judged
-    judged_of t = told t Judged.Allowed Judged.Refused
+    judged_of : Told → Result (Unit {0}) Refusal
+    judged_of t = told t (Ok tt) Err
 
-    back : (j : Judged) → judged_of (told_judged j) ≡ j
-    back Judged.Allowed = refl
-    back (Judged.Refused r) = told_back r Judged.Allowed Judged.Refused
+    back : (j : Result (Unit {0}) Refusal) → judged_of (told_judged j) ≡ j
+    back (Ok done) = refl
+    back (Err r) = told_back r (Ok tt) Err
 
 -- Two readings with the same answer are the same.
-pub one_reading : (a b : Reading) → answer_of a ≡ answer_of b → a ≡ b
+pub one_reading : (a b : Result Command Refusal) → answer_of a ≡ answer_of b → a ≡ b
 one_reading = one_to_one answer_of reading_of back
   where
-    reading_of : Answer → Reading
-    reading_of a = elim a.taken [ [] ↦ Reading.Refused (refusal_of a.told) | c ∷ cs ↦ Reading.Taken c ]
+    reading_of : Answer → Result Command Refusal
+    reading_of a = elim a.taken [ [] ↦ Err (refusal_of a.told) | c ∷ cs ↦ Ok c ]
 
-    back : (r : Reading) → reading_of (answer_of r) ≡ r
-    back (Reading.Taken c) = refl
-    back (Reading.Refused r) = ap Reading.Refused (refusal_back r)
+    back : (r : Result Command Refusal) → reading_of (answer_of r) ≡ r
+    back (Ok c) = refl
+    back (Err r) = ap Err (refusal_back r)
 
 -- Two answers of a writer that tell the same, with the same number of bytes, are the same.
-pub one_writing : (a b : Writing) → wrote_of a ≡ wrote_of b → a ≡ b
+pub one_writing : (a b : Result ℕ Refusal) → wrote_of a ≡ wrote_of b → a ≡ b
 one_writing = one_to_one wrote_of writing_of back
   where
-    writing_of : Wrote → Writing
-    writing_of w = told w.told (Writing.Written w.bytes) Writing.Refused
+    writing_of : Wrote → Result ℕ Refusal
+    writing_of w = told w.told (Ok w.bytes) Err
 
-    back : (w : Writing) → writing_of (wrote_of w) ≡ w
-    back (Writing.Written bytes) = refl
-    back (Writing.Refused r) = told_back r (Writing.Written 0) Writing.Refused
+    back : (w : Result ℕ Refusal) → writing_of (wrote_of w) ≡ w
+    back (Ok bytes) = refl
+    back (Err r) = told_back r (Ok 0) Err
 
 -- Two reaches with the same code and number of words are the same.
-pub one_reach : (a b : Reach) → reach_of a ≡ reach_of b → a ≡ b
+pub one_reach : (a b : Result ℕ Refusal) → reach_of a ≡ reach_of b → a ≡ b
 one_reach = one_to_one reach_of reach_back back
   where
-    reach_back : Reached → Reach
-    reach_back r = told r.told (Reach.Words r.words) Reach.Ends
+    reach_back : Reached → Result ℕ Refusal
+    reach_back r = told r.told (Ok r.words) Err
 
-    back : (r : Reach) → reach_back (reach_of r) ≡ r
-    back (Reach.Words words) = refl
-    back (Reach.Ends r) = told_back r (Reach.Words 0) Reach.Ends
+    back : (r : Result ℕ Refusal) → reach_back (reach_of r) ≡ r
+    back (Ok words) = refl
+    back (Err r) = told_back r (Ok 0) Err

@@ -9,7 +9,7 @@ use Rattle.wire.specs.declared.kinds.Parts.{Parts}
 use Rattle.wire.specs.declared.judging.Stray.{Stray}
 use Rattle.wire.specs.declared.judging.Refusal.{Refusal}
 use Rattle.wire.specs.declared.judging.Told.{Told}
-use Rattle.wire.specs.declared.judging.Judged.{Judged}
+use Rattle.std.specs.Prelude.{Result, Ok, Err}
 use Rattle.wire.specs.Table.{row_of}
 use Rattle.wire.specs.Kind.{parts_of}
 
@@ -42,9 +42,13 @@ told_of Refusal.FlagForbidden = plain 9
 told_of Refusal.FlagMissing = plain 10
 told_of Refusal.NoRoom = plain 24
 
-abbrev pub told_judged : Judged → Told
-told_judged Judged.Allowed = plain 0
-told_judged (Judged.Refused refusal) = told_of refusal
+-- What is told of an answer, from what each refusal tells: code 0 where it was accepted.
+abbrev pub told_by : {A E : Type 0} → (E → Told) → Result A E → Told
+told_by told (Ok x) = plain 0
+told_by told (Err refusal) = told refusal
+
+abbrev pub told_judged : Result Unit Refusal → Told
+told_judged = told_by told_of
 
 -- 01: a goal's bits may also be exactly 0x80000000 (minus zero). With the limits of its row this is 01's rule on a goal (proofs/Goals,
 -- `goal_allowed_lem`), and a not-a-number is out of range whatever its bits are (`nan_refused`).

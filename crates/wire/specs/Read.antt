@@ -5,11 +5,12 @@ use Rattle.words.specs.BigEndian.{half_at, word_at}
 use Rattle.words.specs.Codes.{Check, ◌when◌, first_of}
 use Rattle.wire.specs.declared.table.Form.{Form}
 use Rattle.wire.specs.declared.table.Layout.{Layout}
-use Rattle.wire.specs.declared.table.Found.{Found}
+use Rattle.std.specs.Prelude.{Option, Some, None}
 use Rattle.wire.specs.declared.kinds.Command.{Command}
 use Rattle.wire.specs.declared.kinds.Parts.{Parts}
+use Rattle.wire.specs.declared.judging.Refusal.{Refusal}
 use Rattle.wire.specs.declared.judging.Told.{Told}
-use Rattle.wire.specs.declared.decoding.Reading.{Reading}
+use Rattle.std.specs.Prelude.{Result, Ok, Err}
 use Rattle.wire.specs.declared.decoding.Fields.{Fields}
 use Rattle.wire.specs.Table.{row_of, rule_of}
 use Rattle.wire.specs.Kind.{parts_with, kind_of}
@@ -61,9 +62,9 @@ pub record Answer : Type 0 where
   pub told : Told
   pub taken : List Command
 
-abbrev pub answer_of : Reading → Answer
-answer_of (Reading.Taken c) = record { told = plain 0; taken = c ∷ [] }
-answer_of (Reading.Refused refusal) = record { told = told_of refusal; taken = [] }
+abbrev pub answer_of : Result Command Refusal → Answer
+answer_of (Ok c) = record { told = plain 0; taken = c ∷ [] }
+answer_of (Err refusal) = record { told = told_of refusal; taken = [] }
 
 -- The answer with this code to a form and two numbers, and to the command that they say.
 abbrev pub answer_for : ℕ → Parts → Command → Answer
@@ -87,15 +88,15 @@ form_checks form flag one two =
     7 when not (eqb (fields_of (row_of form).layout one two).pad 0) ∷ part_checks flag (parts_as form one two)
 
 -- Rows 5 to 10: the opcode is not in the table, or it is and the rows of its form follow.
-abbrev pub decode_checks : Found → Bool → ℕ → ℕ → ℕ → List Check
-decode_checks Found.Unknown flag words one two = 5 when true ∷ []
-decode_checks (Found.Known form length) flag words one two =
+abbrev pub decode_checks : Option (Form × ℕ) → Bool → ℕ → ℕ → ℕ → List Check
+decode_checks None flag words one two = 5 when true ∷ []
+decode_checks (Some (form, length)) flag words one two =
     5 when false ∷ 6 when not (eqb words length) ∷ form_checks form flag one two
 
 -- The form that was found. Where none was, row 5 has spoken and any form will do.
-abbrev pub form_in : Found → Form
-form_in (Found.Known form length) = form
-form_in Found.Unknown = Form.TlmFlush
+abbrev pub form_in : Option (Form × ℕ) → Form
+form_in (Some (form, length)) = form
+form_in None = Form.TlmFlush
 
 -- Row 4: the last word is not the XOR of all words before it.
 abbrev pub sum_differs : List ℕ → ℕ → Bool

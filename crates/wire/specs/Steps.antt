@@ -5,8 +5,9 @@ use Rattle.words.specs.BigEndian.{has_room}
 use Rattle.words.specs.Codes.{first_of}
 use Rattle.wire.specs.declared.table.Form.{Form}
 use Rattle.wire.specs.declared.kinds.Command.{Command}
+use Rattle.wire.specs.declared.judging.Refusal.{Refusal}
 use Rattle.wire.specs.declared.judging.Told.{Told}
-use Rattle.wire.specs.declared.decoding.Reach.{Reach}
+use Rattle.std.specs.Prelude.{Result, Ok, Err}
 use Rattle.wire.specs.Table.{rule_of}
 use Rattle.wire.specs.Judge.{plain, told_of}
 use Rattle.wire.specs.Read.{Answer, answer_for, parts_as, command_as, form_checks, decode_checks, form_in, whole_checks, parts_in, command_in, length_of, reach_code}
@@ -17,9 +18,9 @@ pub record Reached : Type 0 where
   pub told : Told
   pub words : ℕ
 
-abbrev pub reach_of : Reach → Reached
-reach_of (Reach.Words words) = record { told = plain 0; words = words }
-reach_of (Reach.Ends refusal) = record { told = told_of refusal; words = 0 }
+abbrev pub reach_of : Result ℕ Refusal → Reached
+reach_of (Ok words) = record { told = plain 0; words = words }
+reach_of (Err refusal) = record { told = told_of refusal; words = 0 }
 
 unfoldable pub reach_at : List ℕ → Reached
 reach_at s = record { told = plain (reach_code s); words = cond (eqb (reach_code s) 0) (length_of s) 0 }

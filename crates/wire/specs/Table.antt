@@ -7,7 +7,7 @@ use Rattle.wire.specs.declared.table.Form.{Form}
 use Rattle.wire.specs.declared.table.Layout.{Layout}
 use Rattle.wire.specs.declared.table.FlagRule.{FlagRule}
 use Rattle.wire.specs.declared.table.Row.{Row}
-use Rattle.wire.specs.declared.table.Found.{Found}
+use Rattle.std.specs.Prelude.{Option, Some, None}
 
 abbrev pub row_with : ℕ → ℕ → Layout → FlagRule → ℕ → ℕ → ℕ → ℕ → Row
 row_with opcode words layout flags low1 high1 low2 high2 =
@@ -66,13 +66,13 @@ abbrev pub macro_forms : List Form
 macro_forms = Form.Open ∷ Form.Close ∷ Form.Run ∷ Form.Wait ∷ Form.Stop ∷ Form.Clear ∷ []
 
 -- The first form of a list that has this opcode, with its length; else what is found otherwise.
-abbrev pub look_up : ℕ → List Form → Found → Found
+abbrev pub look_up : ℕ → List Form → Option (Form × ℕ) → Option (Form × ℕ)
 look_up opcode [] otherwise = otherwise
-look_up opcode (f ∷ fs) otherwise = cond (eqb opcode (row_of f).opcode) (Found.Known f (row_of f).words) (look_up opcode fs otherwise)
+look_up opcode (f ∷ fs) otherwise = cond (eqb opcode (row_of f).opcode) (Some (f, (row_of f).words)) (look_up opcode fs otherwise)
 
-abbrev pub macro_rule_of : ℕ → Found
-macro_rule_of opcode = look_up opcode macro_forms Found.Unknown
+abbrev pub macro_rule_of : ℕ → Option (Form × ℕ)
+macro_rule_of opcode = look_up opcode macro_forms None
 
 -- What an opcode stands for.
-abbrev pub rule_of : ℕ → Found
+abbrev pub rule_of : ℕ → Option (Form × ℕ)
 rule_of opcode = look_up opcode guide_forms (macro_rule_of opcode)

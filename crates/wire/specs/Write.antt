@@ -4,8 +4,9 @@ use Rattle.words.specs.BigEndian.{word_bytes, bytes_of, has_room, written}
 use Rattle.words.specs.Codes.{Check, ◌when◌, first_of}
 use Rattle.wire.specs.declared.table.Layout.{Layout}
 use Rattle.wire.specs.declared.kinds.Command.{Command}
+use Rattle.wire.specs.declared.judging.Refusal.{Refusal}
 use Rattle.wire.specs.declared.judging.Told.{Told}
-use Rattle.wire.specs.declared.encoding.Writing.{Writing}
+use Rattle.std.specs.Prelude.{Result, Ok, Err}
 use Rattle.wire.specs.Table.{row_of}
 use Rattle.wire.specs.Kind.{parts_of}
 use Rattle.wire.specs.Judge.{plain, told_of, told_for, arg_checks}
@@ -54,9 +55,9 @@ pub record Wrote : Type 0 where
   pub told : Told
   pub bytes : ℕ
 
-abbrev pub wrote_of : Writing → Wrote
-wrote_of (Writing.Written bytes) = record { told = plain 0; bytes = bytes }
-wrote_of (Writing.Refused refusal) = record { told = told_of refusal; bytes = 0 }
+abbrev pub wrote_of : Result ℕ Refusal → Wrote
+wrote_of (Ok bytes) = record { told = plain 0; bytes = bytes }
+wrote_of (Err refusal) = record { told = told_of refusal; bytes = 0 }
 
 -- Command writing: 8, then 9 or 10, then 24.
 abbrev pub write_checks : Command → List ℕ → List Check

@@ -1,18 +1,12 @@
-// Reading the command at the front of some bytes: codes 1 to 10, in that order, and how far that command reaches.
-ghost use Rattle.std.specs.Prelude.{◌≡◌, ◌≤◌, cond, length, eqb};
+//! Reading the command at the front of some bytes: codes 1 to 10, in that order, and how far that command reaches.
+ghost use Rattle.std.specs.Prelude.{◌≡◌, ◌≤◌, cond, length, eqb, Err};
 ghost use Rattle.wire.specs.Table.{row_of};
 ghost use Rattle.wire.specs.Read.{fields_with, fields_of, sum_of, third_word, answer_of, read_of, span_of};
 ghost use Rattle.wire.specs.Steps.{decoded_as, decoded, read_whole, reach_of, reach_at};
 
-use super::judging::{Judged, Refusal, judge_by};
+use super::judging::{Refusal, judge_by};
 use super::kinds::{Command, kind_of};
-use super::table::{Form, Found, Layout, Row, row_of, rule_of};
-
-#[derive(Clone, Copy)]
-pub enum Reading {
-    Taken(Command),
-    Refused(Refusal),
-}
+use super::table::{Form, Layout, Row, row_of, rule_of};
 
 // The arguments in the words behind the first, and what stands in their pad.
 #[derive(Drop)]
@@ -29,13 +23,6 @@ struct Encoded {
     pub length: u16,
     pub one: u32,
     pub two: u32,
-}
-
-// How far the command at the front reaches: some words, or no further command can be found.
-#[derive(Drop)]
-enum Reach {
-    Words(u16),
-    Ends(Refusal),
 }
 
 // The shortest command, in bytes, and the bounds of its length, in words.
@@ -67,35 +54,32 @@ fn fields_of(layout: Layout, one: u32, two: u32) -> Fields
 }
 
 // Codes 6 to 10, once the form and its row are known.
-fn decode_as(form: Form, row: Row, words: u16, encoded: Encoded) -> Reading
+fn decode_as(form: Form, row: Row, words: u16, encoded: Encoded) -> Result<Command, Refusal>
     requires { row ≡ row_of form }
     ensures { answer_of result ≡ cond (eqb encoded.length words)
         (decoded_as form encoded.flag encoded.one encoded.two)
-        (answer_of (Reading.Refused Refusal.WrongLength)) }
+        (answer_of (Err Refusal.WrongLength)) }
 {
     if encoded.length != words {
-        return Reading::Refused(Refusal::WrongLength);
+        return Err(Refusal::WrongLength);
     }
-    let layout = row.layout;
-    let fields = fields_of(layout, encoded.one, encoded.two);
+    let fields = fields_of(row.layout, encoded.one, encoded.two);
     if fields.pad != 0 {
-        return Reading::Refused(Refusal::PadNotZero);
+        return Err(Refusal::PadNotZero);
     }
-    match judge_by(row, encoded.flag, fields.first, fields.second) {
-        Judged::Allowed => Reading::Taken(Command {
-            flag: encoded.flag,
-            kind: kind_of(form, fields.first, fields.second),
-        }),
-        Judged::Refused(refusal) => Reading::Refused(refusal),
-    }
+    judge_by(row, encoded.flag, fields.first, fields.second)?;
+    Ok(Command {
+        flag: encoded.flag,
+        kind: kind_of(form, fields.first, fields.second),
+    })
 }
 
 // The same, from the form alone. Each arm names its form anew, for there it is a constant, and the compiler settles the form's layout, limits and flag rule
 // for good; handed on as `form`, they would be looked up for every command that is read (speed/README.md has the figures).
-fn decode_form(form: Form, words: u16, encoded: Encoded) -> Reading
+fn decode_form(form: Form, words: u16, encoded: Encoded) -> Result<Command, Refusal>
     ensures { answer_of result ≡ cond (eqb encoded.length words)
         (decoded_as form encoded.flag encoded.one encoded.two)
-        (answer_of (Reading.Refused Refusal.WrongLength)) }
+        (answer_of (Err Refusal.WrongLength)) }
 {
     match form {
         Form::ImgPwr => decode_as(Form::ImgPwr, row_of(Form::ImgPwr), words, encoded),
@@ -117,12 +101,12 @@ fn decode_form(form: Form, words: u16, encoded: Encoded) -> Reading
 }
 
 // Codes 5 to 10, from the opcode and what stands beside it.
-fn decode(opcode: u16, encoded: Encoded) -> Reading
+fn decode(opcode: u16, encoded: Encoded) -> Result<Command, Refusal>
     ensures { answer_of result ≡ decoded opcode encoded.flag encoded.length encoded.one encoded.two }
 {
     match rule_of(opcode) {
-        Found::Unknown => Reading::Refused(Refusal::UnknownOpcode),
-        Found::Known(form, words) => decode_form(form, words, encoded),
+        None => Err(Refusal::UnknownOpcode),
+        Some((form, words)) => decode_form(form, words, encoded),
     }
 }
 
@@ -141,32 +125,27 @@ fn sum_of(s: &[u8], n: usize) -> u32
         return words::word_at(s, 0) ^ words::word_at(s, 4) ^ words::word_at(s, 8);
     }
     let mut sum: u32 = 0;
-    let mut i: usize = 0;
-    while i < n {
-        sum = sum ^ words::word_at(s, i * words::WORD);
-        i += 1;
+    for i in 0..n {
+        sum ^= words::word_at(s, i * words::WORD);
     }
     sum
 }
 
 // Codes 1 to 3: does a whole command stand at the front?
-fn reach_of(s: &[u8]) -> Reach
+fn reach_of(s: &[u8]) -> Result<u16, Refusal>
     ensures { reach_of result ≡ reach_at s.now }
 {
     if s.len() < SHORTEST {
-        return Reach::Ends(Refusal::TooFewBytes);
+        return Err(Refusal::TooFewBytes);
     }
     let length = words::half_at(s, 2) % FLAG_BIT;
-    if length < FEWEST_WORDS {
-        return Reach::Ends(Refusal::LengthOutOfBounds);
+    if length < FEWEST_WORDS || MOST_WORDS < length {
+        return Err(Refusal::LengthOutOfBounds);
     }
-    if MOST_WORDS < length {
-        return Reach::Ends(Refusal::LengthOutOfBounds);
+    if s.len() < length as usize * words::WORD {
+        return Err(Refusal::CutOff);
     }
-    if s.len() < (length as usize) * words::WORD {
-        return Reach::Ends(Refusal::CutOff);
-    }
-    Reach::Words(length)
+    Ok(length)
 }
 
 // The third word of a command that has four; 0 for a shorter one, so that nothing behind the command is looked at.
@@ -177,17 +156,16 @@ fn third_word(s: &[u8], length: u16) -> u32
 }
 
 // Codes 4 to 10, where a whole command of this length stands at the front.
-fn read_whole(s: &[u8], length: u16) -> Reading
+fn read_whole(s: &[u8], length: u16) -> Result<Command, Refusal>
     requires { (2 ≤ length) × (length ≤ 32) }
     ensures { answer_of result ≡ read_whole s.now length }
 {
-    let last = (length as usize) - 1;
+    let last = length as usize - 1;
     if sum_of(s, last) != words::word_at(s, last * words::WORD) {
-        return Reading::Refused(Refusal::SumDiffers);
+        return Err(Refusal::SumDiffers);
     }
-    let flag = FLAG_BIT <= words::half_at(s, 2);
     let encoded = Encoded {
-        flag,
+        flag: FLAG_BIT <= words::half_at(s, 2),
         length,
         one: words::word_at(s, 4),
         two: third_word(s, length),
@@ -195,22 +173,24 @@ fn read_whole(s: &[u8], length: u16) -> Reading
     decode(words::half_at(s, 0), encoded)
 }
 
-// The command at the front of these bytes.
-pub fn read_command(s: &[u8]) -> Reading
+/// The command at the front of these bytes.
+///
+/// # Errors
+///
+/// Codes 1 to 10, the first that is due in that order. Rules: "A command on the wire", "The codes".
+pub fn read_command(s: &[u8]) -> Result<Command, Refusal>
     ensures { answer_of result ≡ read_of s.now }
 {
-    match reach_of(s) {
-        Reach::Ends(refusal) => Reading::Refused(refusal),
-        Reach::Words(length) => read_whole(s, length),
-    }
+    let length = reach_of(s)?;
+    read_whole(s, length)
 }
 
-// How many bytes the command at the front takes: all of them where codes 1 to 3 end the list.
+/// How many bytes the command at the front takes: all of them where codes 1 to 3 end the list.
 pub fn span(s: &[u8]) -> usize
     ensures { result ≡ span_of s.now }
 {
     match reach_of(s) {
-        Reach::Ends(_) => s.len(),
-        Reach::Words(length) => (length as usize) * words::WORD,
+        Ok(length) => length as usize * words::WORD,
+        Err(_) => s.len(),
     }
 }

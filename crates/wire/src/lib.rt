@@ -8,10 +8,10 @@ mod judging;
 mod kinds;
 mod table;
 
-pub use decoding::{Reading, read_command, span};
-pub use encoding::{Writing, write_command};
+pub use decoding::{read_command, span};
+pub use encoding::write_command;
 pub use judging::{
-    Judged, Refusal, Stray, Told, first_bad, in_limits, judge, judge_by, judge_flag, plain, told_of,
+    Refusal, Stray, Tell, Told, first_bad, in_limits, judge, judge_by, judge_flag, plain, told_of,
 };
 pub use kinds::{Command, Kind, kind_of, parts_of};
-pub use table::{FlagRule, Form, Found, Layout, Row, arguments_of, row_of, rule_of};
+pub use table::{FlagRule, Form, Layout, Row, arguments_of, row_of, rule_of};

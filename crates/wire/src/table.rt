@@ -3,7 +3,7 @@ ghost use Rattle.std.specs.Prelude.{◌≡◌};
 ghost use Rattle.wire.specs.Table.{row_with, row_of, arguments_of, rule_of};
 
 // The fifteen commands without their arguments, in the order of the table.
-#[derive(Clone, Copy)]
+#[derive(Clone, Copy, Debug, PartialEq, Eq)]
 pub enum Form {
     ImgPwr,
     ImgRegion,
@@ -23,7 +23,7 @@ pub enum Form {
 }
 
 // How the argument words are laid out: none; 8 bits and a pad; 16 bits and a pad; 16 bits twice; two singles.
-#[derive(Clone, Copy)]
+#[derive(Clone, Copy, Debug, PartialEq, Eq)]
 pub enum Layout {
     Bare,
     Byte,
@@ -33,7 +33,7 @@ pub enum Layout {
 }
 
 // What the macro flag may be: either, never 1, always 1.
-#[derive(Clone, Copy)]
+#[derive(Clone, Copy, Debug, PartialEq, Eq)]
 pub enum FlagRule {
     Either,
     Never,
@@ -51,13 +51,6 @@ pub struct Row {
     pub high1: u32,
     pub low2: u32,
     pub high2: u32,
-}
-
-// What an opcode stands for: a form and its length in words.
-#[derive(Clone, Copy)]
-pub enum Found {
-    Known(Form, u16),
-    Unknown,
 }
 
 const LAST_PIXEL: u32 = 1023;
@@ -193,25 +186,25 @@ pub fn arguments_of(layout: Layout) -> usize
 }
 
 // What an opcode stands for: a line to each of the fifteen, in the table's order, with its form and its length in words. No other number is an opcode.
-pub fn rule_of(opcode: u16) -> Found
+pub fn rule_of(opcode: u16) -> Option<(Form, u16)>
     ensures { result ≡ rule_of opcode }
 {
     match opcode {
-        0x0114 => Found::Known(Form::ImgPwr, 3),
-        0x0117 => Found::Known(Form::ImgRegion, 3),
-        0x0118 => Found::Known(Form::ImgTrack, 3),
-        0x0148 => Found::Known(Form::TrkAlg, 3),
-        0x014b => Found::Known(Form::TrkLoop, 3),
-        0x0150 => Found::Known(Form::ImgImage, 3),
-        0x0153 => Found::Known(Form::TrkGoal, 4),
-        0x015a => Found::Known(Form::TlmFlush, 2),
-        0x015c => Found::Known(Form::FlushAuto, 3),
-        0x7f01 => Found::Known(Form::Open, 3),
-        0x7f02 => Found::Known(Form::Close, 2),
-        0x7f03 => Found::Known(Form::Run, 3),
-        0x7f04 => Found::Known(Form::Wait, 3),
-        0x7f05 => Found::Known(Form::Stop, 2),
-        0x7f06 => Found::Known(Form::Clear, 2),
-        _ => Found::Unknown,
+        0x0114 => Some((Form::ImgPwr, 3)),
+        0x0117 => Some((Form::ImgRegion, 3)),
+        0x0118 => Some((Form::ImgTrack, 3)),
+        0x0148 => Some((Form::TrkAlg, 3)),
+        0x014b => Some((Form::TrkLoop, 3)),
+        0x0150 => Some((Form::ImgImage, 3)),
+        0x0153 => Some((Form::TrkGoal, 4)),
+        0x015a => Some((Form::TlmFlush, 2)),
+        0x015c => Some((Form::FlushAuto, 3)),
+        0x7f01 => Some((Form::Open, 3)),
+        0x7f02 => Some((Form::Close, 2)),
+        0x7f03 => Some((Form::Run, 3)),
+        0x7f04 => Some((Form::Wait, 3)),
+        0x7f05 => Some((Form::Stop, 2)),
+        0x7f06 => Some((Form::Clear, 2)),
+        _ => None,
     }
 }

@@ -1,5 +1,6 @@
 -- A number in decimal: how its digits follow one another, how many they are, and that they say the number.
 use Prim.Native.Nat.{ℕ, zero, suc, ◌+◌, ◌*◌, ◌/◌, ◌%◌, ◌-◌, ◌^◌, ◌≤◌, ◌<◌}
+use Rattle.std.specs.Prelude.{Option, Some, None, IfSome, IfNone, unwrap_or}
 use mathlib.Core.Path.{◌≡◌, refl, sym, ap, ◌∙◌}
 use mathlib.Core.List.{List, [], ◌∷◌, ◌++◌}
 use mathlib.Core.Bool.{Bool, true, false, cond}
@@ -62,6 +63,26 @@ digits_below (suc most) (suc k) n small = go (ltb n 10) (digits_below most k (n 
     go : (b : Bool) → length (decimal_in most (n / 10)) ≤ suc k → length (cond b [] (decimal_in most (n / 10)) ++ (digit_of n ∷ [])) ≤ suc (suc k)
     go true few = omega arith
     go false few = simp length-append (omega arith)
+
+-- One that is no smaller has more.
+digits_above : (k n : ℕ) → 10 ^ k ≤ n → n < 2 ^ 32 → k < length (decimal n)
+digits_above zero n large small = digits_some n
+digits_above (suc k) n large small =
+    let tenth : 10 ^ k ≤ n / 10 = omega (arith, large, pow-suc 10 k) in
+    let some : 10 ≤ n = omega (arith, large, pow-suc 10 k, one_at_least k) in
+    omega (arith, digits_above k (n / 10) tenth (omega arith), length-decimal_more n some small)
+  where
+    one_at_least : (k : ℕ) → 1 ≤ 10 ^ k
+    one_at_least zero = omega arith
+    one_at_least (suc k) = omega (arith, one_at_least k, pow-suc 10 k)
+
+-- So a number has one digit more than the greatest power of ten in it; 0, in which there is none, has one.
+pub length-decimal : (power : Option ℕ) (n : ℕ) → n < 2 ^ 32 → IfNone power (n ≡ 0) → IfSome power (λ k. 10 ^ k ≤ n) → IfSome power (λ k. n < 10 * 10 ^ k)
+    → unwrap_or power 0 + 1 ≡ length (decimal n)
+length-decimal None n small none low high = sym (ap length (decimal_one n (omega (arith, none))))
+length-decimal (Some k) n small none low high =
+    let next : n < 10 ^ suc k = omega (arith, high, pow-suc 10 k) in
+    omega (arith, digits_above k n low small, digits_below 10 k n next)
 
 -- Digits behind digits.
 pub value_append : (read : ℕ) (xs ys : List ℕ) → value_from read (xs ++ ys) ≡ value_from (value_from read xs) ys

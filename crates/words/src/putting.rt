@@ -1,5 +1,5 @@
-// Text in byte slices: how many digits a number has, and writers that put bytes or a number in decimal at a place of a room and say which place comes
-// next. A writer that has too little room leaves it untouched, and the place that it was given comes next.
+//! Text in byte slices: how many digits a number has, and writers that put bytes or a number in decimal at a place of a room and say which place comes
+//! next. A writer that has too little room leaves it untouched, and the place that it was given comes next.
 ghost use Rattle.std.specs.Prelude.{◌+◌, ◌-◌, ◌%◌, ◌≤◌, ◌≡◌, length};
 ghost use Rattle.std.proofs.lemmas.List.Edits.{sets};
 ghost use Rattle.words.specs.Text.{decimal, stored_at, place_after};
@@ -11,14 +11,11 @@ const TEN: u32 = 10;
 
 const ZERO: u8 = b'0';
 
-// How many digits a number has.
+/// How many digits a number has.
 pub fn places(value: u32) -> usize
     ensures { result ≡ length (decimal value) }
 {
-    if value < TEN {
-        return 1;
-    }
-    places(value / TEN) + 1
+    value.checked_ilog10().unwrap_or(0) as usize + 1
 }
 
 // The byte of a number's last digit.
@@ -28,7 +25,7 @@ fn last_digit(value: u32) -> u8
     ZERO + (value % TEN) as u8
 }
 
-// Puts a number so that it ends before a place, the last digit first.
+/// Puts a number so that it ends before a place, the last digit first.
 fn put_digits(room: &mut [u8], end: usize, value: u32)
     requires value_len_bound { length (decimal value) ≤ end }
     requires end_in_bounds { end ≤ length room.old }
@@ -44,30 +41,24 @@ fn put_digits(room: &mut [u8], end: usize, value: u32)
     room[behind - 1] = last_digit(left);
 }
 
-// Writes bytes into a room, from a place on, and says which place comes next.
+/// Writes bytes into a room, from a place on, and says which place comes next.
 pub fn put_at(room: &mut [u8], at: usize, bytes: &[u8]) -> usize
     ensures value { result ≡ place_after bytes.now at room.old }
     ensures room_after { room.new ≡ stored_at bytes.now at room.old }
 {
-    if room.len() < at {
-        return at;
-    }
-    if !put_bytes(&mut room[at..], bytes) {
+    if room.len() < at || put_bytes(&mut room[at..], bytes).is_err() {
         return at;
     }
     at + bytes.len()
 }
 
-// Writes a number in decimal into a room, from a place on, and says which place comes next.
+/// Writes a number in decimal into a room, from a place on, and says which place comes next.
 pub fn put_decimal(room: &mut [u8], at: usize, value: u32) -> usize
     ensures value { result ≡ place_after (decimal value) at room.old }
     ensures room_after { room.new ≡ stored_at (decimal value) at room.old }
 {
     let digits = places(value);
-    if room.len() < at {
-        return at;
-    }
-    if room.len() - at < digits {
+    if room.len() < at || room.len() - at < digits {
         return at;
     }
     put_digits(room, at + digits, value);

@@ -1,5 +1,4 @@
 -- `bench::executed_all` meets its contract: in each turn the camera is the one that the entries so far left, and their codes stand in their places.
-use Prim.Native.Nat.{◌-◌}
 use mathlib.Core.Path.{sym, ap, ◌∙◌}
 use Rattle.camera.specs.Camera.{executed_of, dark}
 use Rattle.bench.proofs.Executing.{kinds_all, turn_dark, turn_lit, all_executed, all_coded}

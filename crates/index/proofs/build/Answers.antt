@@ -1,6 +1,9 @@
 -- `build` meets its contract: each of its ends by `Ends`.
 use mathlib.Core.Path.{sym, ◌∙◌}
 use Rattle.index.proofs.Ends.{Walked, too_long, bad_offsets, too_many_found, too_few_places, done}
+use native.Mathlib.Omega.{arith}
+use lib.ListN.{length}
+use Rattle.index.proofs.Offsets.{fit_last}
 use Rattle.index.proofs.build.Goals as goal
 
 pub returns-then-list-gt-LONGEST-clause-result_value : goal.returns-then-list-gt-LONGEST-clause-result_value
@@ -98,3 +101,9 @@ returns-clause-room_after c =
     let room = c.args.room.now in
     (done _ _ room _ _ _ walked c.if-count-gt-MOST.false c.if-room-count.false _ _ _ c.gather-found.ensures.front
     c.put_offsets.ensures c.put_offsets-2.ensures).1
+
+pub gather-found-requires-clause-from_bound : goal.gather-found-requires-clause-from_bound
+gather-found-requires-clause-from_bound c =
+    let start = c.args in
+    let fit = fit_last (length start.list.now) start.old.now (sym c.are_unfit.ensures ∙ c.if-are_unfit.false) in
+    omega (arith, fit, c.last_of.ensures)

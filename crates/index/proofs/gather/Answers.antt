@@ -1,27 +1,26 @@
--- `gather` meets its contract: the starts gathered so far and those that are left are all of them. The measure is how many are left, so that the loop
--- has no more turns than commands begin from the place on.
-use native.Mathlib.Omega.{arith}
-use Rattle.walk.proofs.Turns.{CommandAt, command_at}
-use Rattle.index.proofs.Starts.{place_left, gathers, fewer_left, all_gathered}
+-- `gather` meets its contract: the starts gathered so far and those that are left are all of them.
+use mathlib.Core.Path.{ap, ◌∙◌}
+use Rattle.walk.specs.Walk.{rests}
+use Rattle.walk.proofs.Turns.{from_place}
+use Rattle.index.proofs.Starts.{none_gathered, before_end, place_left, gathers, all_gathered}
 use Rattle.index.proofs.gather.Goals as goal
 
+pub loop-rest-init : goal.loop-rest-init
+loop-rest-init c =
+    none_gathered _ _ _ _ c.requires.list_len_bound c.requires.in_bounds (
+    ap (λ w. rests w.left.now) c.into_iter-rest-iterator.ensures.into_iter_gives
+    ∙ ap (λ part. rests part.now) c.new-rest-items.ensures
+    ∙ ap rests (from_place c.args.list.now c.args.from)
+    )
+
+pub overflow_sub-buffer : goal.overflow_sub-buffer
+overflow_sub-buffer c = before_end _ _ _ _ _ _ c.loop-rest.invariant _ _ c.in-Some.ensures.steps
+
 pub bounds-buffer-n : goal.bounds-buffer-n
-bounds-buffer-n c = place_left _ _ _ _ _ _ c.loop-at.invariant c.loop-at-test.true
+bounds-buffer-n c = place_left _ _ _ _ _ _ c.loop-rest.invariant _ _ c.in-Some.ensures.steps
 
-pub overflow_add-at : goal.overflow_add-at
-overflow_add-at c =
-    let here : CommandAt c.args.list.now c.loop-at.at c.span-at.result = command_at _ _ _ c.loop-at-test.true c.span-at.ensures in
-    omega (arith, here)
-
-pub loop-at-smaller : goal.loop-at-smaller
-loop-at-smaller c =
-    let here : CommandAt c.args.list.now c.loop-at.at c.span-at.result = command_at _ _ _ c.loop-at-test.true c.span-at.ensures in
-    fewer_left _ _ _ _ _ _ c.loop-at.invariant _ here
-
-pub loop-at-preserved : goal.loop-at-preserved
-loop-at-preserved c =
-    let here : CommandAt c.args.list.now c.loop-at.at c.span-at.result = command_at _ _ _ c.loop-at-test.true c.span-at.ensures in
-    gathers _ _ _ _ _ _ c.loop-at.invariant _ here
+pub loop-rest-preserved : goal.loop-rest-preserved
+loop-rest-preserved c = gathers _ _ _ _ _ _ c.loop-rest.invariant _ _ c.in-Some.ensures.steps
 
 pub returns : goal.returns
-returns c = all_gathered _ _ _ _ _ _ c.loop-at.invariant c.loop-at-test.false
+returns c = all_gathered _ _ _ _ _ _ c.loop-rest.invariant c.in-None.ensures.steps.0

@@ -1,7 +1,7 @@
--- `put_offsets` meets its contract. The invariant: the first i offsets are stored from the place on.
-use mathlib.Core.Path.{refl}
-use Rattle.words.proofs.Laws.{one_stored}
+-- `put_offsets` meets its contract: a part of the room is written over by the offsets.
+use native.Mathlib.Omega.{arith}
+use Rattle.index.proofs.Starts.{part_set}
 use Rattle.index.proofs.put_offsets.Goals as goal
 
-pub loop-i-preserved : goal.loop-i-preserved
-loop-i-preserved c = one_stored _ _ _ _ _ c.loop-i.invariant _ refl c.loop-i-test.true
+pub returns : goal.returns
+returns c = part_set c.args.at _ c.args.room.now c.copy_from_slice.new.self c.args.offsets.now c.copy_from_slice.ensures.after (omega arith) c.requires

@@ -5,6 +5,3 @@ use Rattle.report.proofs.last_failed.Given as goal
 
 abbrev pub invariant-loop-left : goal.invariant-loop-left
 invariant-loop-left l = last_failed l.report l.left ≡ last_failed l.report l.count
-
-abbrev pub decreases-loop-left : goal.decreases-loop-left
-decreases-loop-left l = l.left

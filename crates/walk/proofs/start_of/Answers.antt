@@ -1,49 +1,37 @@
--- `start_of` meets its contract. The loop's invariant: `at` is where the command behind the first `passed` begins. Each turn passes one byte at
--- least, so the measure is the number of bytes left, whatever `number` is.
-use Prim.Native.Nat.{ℕ, ◌-◌, ◌<◌}
-use mathlib.Core.Path.{◌≡◌, refl, sym, ap, ◌∙◌}
-use mathlib.Core.Bool.{cond}
+-- `start_of` meets its contract: the walk's answer to `nth` is the rest that begins there.
+use Prim.Native.Nat.{ℕ, ◌-◌}
+use mathlib.Core.Path.{◌≡◌, sym, ap, ◌∙◌}
 use mathlib.Core.List.{List}
-use native.Mathlib.Omega.{arith}
+use mathlib.Core.Bool.{cond}
 use lib.ListN.{length}
 use borrow.Author.Tests.{ne_eqb}
-use Rattle.walk.specs.Walk.{start_after}
+use Rattle.std.specs.Option.{option_map}
+use Rattle.std.proofs.lemmas.Iterator.Consumers.{nth_from_yields_List, YieldsList-from_first}
+use Rattle.walk.specs.Walk.{start_after, rests}
 use Rattle.walk.specs.Shown.{start_of}
-use Rattle.walk.proofs.Rests.{start_within}
-use Rattle.walk.proofs.Turns.{past, CommandAt, command_at, next_start}
+use Rattle.walk.proofs.Turns.{nth_start, nth_none}
 use Rattle.walk.proofs.start_of.Goals as goal
 
 -- Command `number` begins where the walk finds the command behind the first `number` less 1.
-found : (s : List ℕ) (number at : ℕ) → 0 < number → at ≡ start_after s (number - 1) → at ≡ start_of s number
-found s number at some is = is ∙ sym (ap (λ b. cond b (length s) (start_after s (number - 1))) (ne_eqb number 0 (λ z. omega arith)))
+by_walk : (s : List ℕ) (number : ℕ) → (number ≡ 0 → ⊥) → start_of s number ≡ start_after s (number - 1)
+by_walk s number some = ap (λ b. cond b (length s) (start_after s (number - 1))) (ne_eqb number 0 some)
 
-pub loop-at-init : goal.loop-at-init
-unfolding start_after
-loop-at-init c = record { below = omega arith; place = refl }
+pub overflow_sub-result : goal.overflow_sub-result
+overflow_sub-result c =
+    let got = nth_from_yields_List c.nth.result c.nth.new.self (c.args.number - 1) c.nth.ensures.ran
+    (YieldsList-from_first (λ x. x.now) (λ s. rests s.left.now) (rests c.args.s.now) (ap (λ x. rests x.now) c.new.ensures)) in
+    (nth_start c.args.s.now (c.args.number - 1) c.in-Some.rest.now (sym got ∙ ap (option_map (λ x. x.now)) c.in-Some.is)).0
 
-pub overflow_add-at : goal.overflow_add-at
-overflow_add-at c =
-    let here : CommandAt c.args.s.now c.loop-at.at c.span-at.result = command_at c.args.s.now c.loop-at.at c.span-at.result
-    c.loop-at-test.true c.span-at.ensures in
-    omega (arith, here)
+pub returns-in-Some : goal.returns-in-Some
+returns-in-Some c =
+    let got = nth_from_yields_List c.nth.result c.nth.new.self (c.args.number - 1) c.nth.ensures.ran
+    (YieldsList-from_first (λ x. x.now) (λ s. rests s.left.now) (rests c.args.s.now) (ap (λ x. rests x.now) c.new.ensures)) in
+    (nth_start c.args.s.now (c.args.number - 1) c.in-Some.rest.now (sym got ∙ ap (option_map (λ x. x.now)) c.in-Some.is)).1
+    ∙ sym (by_walk c.args.s.now c.args.number (λ z. c.if-number-eq0.false z))
 
-pub loop-at-smaller : goal.loop-at-smaller
-loop-at-smaller c =
-    let here : CommandAt c.args.s.now c.loop-at.at c.span-at.result = command_at c.args.s.now c.loop-at.at c.span-at.result
-    c.loop-at-test.true c.span-at.ensures in
-    omega (arith, here)
-
-pub loop-at-preserved : goal.loop-at-preserved
-loop-at-preserved c =
-    let here : CommandAt c.args.s.now c.loop-at.at c.span-at.result = command_at c.args.s.now c.loop-at.at c.span-at.result
-    c.loop-at-test.true c.span-at.ensures in
-    let at = c.loop-at in
-    record { below = omega arith; place = next_start _ at.at c.span-at.result at.passed here at.invariant.place }
-
-pub returns : goal.returns
-returns c =
-    let start = c.args in
-    let s = start.s.now in
-    let at = c.loop-at in
-    let last = past s at.passed (start.number - 1) (omega arith) (omega arith) in
-    found s start.number at.at (omega arith) (omega (arith, start_within s at.passed))
+pub returns-in-None : goal.returns-in-None
+returns-in-None c =
+    let got = nth_from_yields_List c.nth.result c.nth.new.self (c.args.number - 1) c.nth.ensures.ran
+    (YieldsList-from_first (λ x. x.now) (λ s. rests s.left.now) (rests c.args.s.now) (ap (λ x. rests x.now) c.new.ensures)) in
+    nth_none c.args.s.now (c.args.number - 1) (sym got ∙ ap (option_map (λ x. x.now)) c.in-None.is)
+    ∙ sym (by_walk c.args.s.now c.args.number (λ z. c.if-number-eq0.false z))

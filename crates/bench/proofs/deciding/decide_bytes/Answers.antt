@@ -3,13 +3,13 @@ use mathlib.Core.Path.{◌∙◌}
 use Rattle.bench.proofs.Decisions.{read_refused, read_passed}
 use Rattle.bench.proofs.deciding.decide_bytes.Goals as goal
 
-pub returns-in-Refused : goal.returns-in-Refused
-returns-in-Refused c =
+pub returns-in-Err : goal.returns-in-Err
+returns-in-Err c =
     let start = c.args in
-    read_refused start.power start.tally start.bytes.now c.in-Refused.refusal (rw c.in-Refused.is at c.read_command.ensures)
+    read_refused start.power start.tally start.bytes.now c.in-Err.refusal (rw c.in-Err.is at c.read_command.ensures)
 
-pub returns-in-Taken : goal.returns-in-Taken
-returns-in-Taken c =
+pub returns-in-Ok : goal.returns-in-Ok
+returns-in-Ok c =
     let start = c.args in
     c.permitted.ensures
-    ∙ read_passed start.power start.tally start.bytes.now c.in-Taken.command (rw c.in-Taken.is at c.read_command.ensures)
+    ∙ read_passed start.power start.tally start.bytes.now c.in-Ok.command (rw c.in-Ok.is at c.read_command.ensures)

@@ -1,6 +1,6 @@
 -- `run_list` meets its contract, by the laws of `RawList`: the loop's invariant is that what is left of the list, carried out from here, gives
 -- what the whole list gives from its start, with a tally that is true of a sound bench. Each turn passes one byte at least.
-use Prim.Native.Nat.{◌+◌, ◌*◌, ◌-◌, ◌≤◌}
+use Prim.Native.Nat.{◌+◌, ◌*◌, ◌≤◌}
 use native.Mathlib.Omega.{arith}
 use lib.ListN.{length}
 use Rattle.report.specs.Record.{record_length}

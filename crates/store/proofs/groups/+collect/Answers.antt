@@ -1,5 +1,4 @@
 -- `store::groups::collect` meets its contract: one law for each turn, and the macro number falls at each call.
-use Prim.Native.Nat.{◌-◌}
 use native.Mathlib.Omega.{arith}
 use Rattle.store.specs.TallySteps.{store_of}
 use Rattle.store.specs.GroupSteps.{cursor_of}

@@ -1,5 +1,5 @@
 -- `store::pool::raise` meets its contract: at each turn the words from there up to `to` lie three places up.
-use Prim.Native.Nat.{ℕ, ◌-◌, ◌≤◌}
+use Prim.Native.Nat.{ℕ, ◌≤◌}
 use mathlib.Core.Path.{◌≡◌}
 use mathlib.Core.List.{List}
 use lib.ListN.{length}

@@ -1,5 +1,5 @@
 -- `store::pool::start_of` meets its contract: the sum so far is where the macro that is next starts, and each macro adds at most 255.
-use Prim.Native.Nat.{ℕ, ◌+◌, ◌-◌}
+use Prim.Native.Nat.{ℕ, ◌+◌}
 use mathlib.Core.Path.{◌≡◌, refl}
 use mathlib.Core.List.{List}
 use mathlib.Core.Bool.{Bool}

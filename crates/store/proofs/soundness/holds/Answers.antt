@@ -1,6 +1,5 @@
 -- `store::soundness::holds` meets its contract. The loop's invariant: the macros below m hold. Where all do, the running one has at most
 -- 600 seconds, so the table tells them as they are.
-use Prim.Native.Nat.{◌-◌}
 use mathlib.Core.Path.{◌≡◌, refl, sym, ◌∙◌}
 use mathlib.Core.Bool.{true}
 use native.Mathlib.Omega.{arith}

@@ -14,10 +14,10 @@ returns c =
     let a = c.args in
     let sum = c.sum_of in
     let last = c.word_at in
-    let half = c.half_at-flag in
+    let half = c.half_at in
     let one = c.word_at-2 in
     let two = c.third_word in
-    let opcode = c.half_at in
+    let opcode = c.half_at-2 in
     sum_passed a.s.now a.length sum.result last.result sum.ensures last.ensures
     opcode.result half.result one.result two.result opcode.ensures half.ensures one.ensures two.ensures c.if-sum_of-word_at.false
     c.decode.ensures

@@ -1,5 +1,4 @@
--- `sum_of` meets its contract: up to three words one by one, and else a loop whose invariant is that the sum is that of the first i words. The measure is
--- what is left of n.
+-- `sum_of` meets its contract: up to three words one by one, and else a loop.
 use Prim.Native.Nat.{ℕ}
 use mathlib.Core.Path.{◌≡◌, refl, sym, ap, ◌∙◌}
 use mathlib.Core.List.{List}

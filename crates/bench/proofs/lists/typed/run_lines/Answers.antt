@@ -1,6 +1,6 @@
 -- `lists::typed::run_lines` meets its contract, by the laws of `TypedList`: the loop's invariant is that what is left of the text, carried out from
 -- here, gives what the whole text gives from its start, with a tally that is true of a sound bench. Each turn passes a line.
-use Prim.Native.Nat.{◌+◌, ◌*◌, ◌-◌, ◌≤◌}
+use Prim.Native.Nat.{◌+◌, ◌*◌, ◌≤◌}
 use mathlib.Core.Path.{◌≡◌, sym, ap, ◌∙◌}
 use native.Mathlib.Omega.{arith}
 use lib.ListN.{length}

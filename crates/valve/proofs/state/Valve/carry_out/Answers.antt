@@ -1,14 +1,14 @@
 -- `carry_out` meets its contract: what the bytes were refused for, else what the act comes to (States).
-use Rattle.std.proofs.Common.{◌∙◌}
+use Rattle.std.proofs.Common.{◌≡◌, ap, ◌∙◌, rules}
+use Rattle.std.specs.Prelude.{Err}
+use Rattle.valve.specs.State.{outcome_of}
 use Rattle.valve.proofs.States.{misread, obeyed}
 use Rattle.valve.proofs.state.Valve.carry_out.Goals as goal
 
-pub returns-in-Refused : goal.returns-in-Refused
-returns-in-Refused c =
-    let start = c.args in
-    c.refused.ensures ∙ misread start.self start.s.now c.in-Refused.refusal (rw c.in-Refused.is at c.read_frame.ensures)
+pub returns-in_err-frame-clause-outcome : goal.returns-in_err-frame-clause-outcome
+returns-in_err-frame-clause-outcome c =
+    let is : c.from_residual.result ≡ Err c.in_err-frame.field-0.0 = search rules in
+    ap (outcome_of c.args.self.now) is ∙ misread c.args.self.now c.args.s.now c.in_err-frame.field-0.0 c.in_err-frame.ensures
 
-pub returns-in-Taken : goal.returns-in-Taken
-returns-in-Taken c =
-    let start = c.args in
-    c.obeyed.ensures ∙ obeyed start.self start.s.now c.in-Taken.frame (rw c.in-Taken.is at c.read_frame.ensures)
+pub returns-clause-outcome : goal.returns-clause-outcome
+returns-clause-outcome c = c.obey.ensures.outcome ∙ obeyed c.args.self.now c.args.s.now c.in_ok-frame.frame c.in_ok-frame.ensures
