@@ -4,6 +4,9 @@
 
 ghost use Rattle.std.specs.Prelude.{◌≤◌, length};
 
+mod program;
+
+pub use program::{read_whole, write_whole};
 use std::io::Read;
 
 // What was read: how many bytes, and whether the read behind them failed.
