@@ -1,55 +1,35 @@
-// What a program reads, from the reader that it lends, which is standard input: as much of it as a room takes, and whether it could be read. A program
-// whose room is one byte longer than what it takes sees that there is more.
+//! What a program reads, from the reader that it lends, which is standard input: as much of it as a room takes, and whether it could be read. A program
+//! whose room is one byte longer than what it takes sees that there is more.
 #![tactic(auto)]
 
-ghost use Rattle.std.specs.Prelude.{◌≤◌, length};
+ghost use Rattle.std.specs.Prelude.{◌≤◌, length, IfOk, IfErr};
 
 mod program;
 
 pub use program::{read_whole, write_whole};
 use std::io::Read;
 
-// What was read: how many bytes, and whether the read behind them failed.
-#[derive(Clone, Copy)]
-pub struct Input {
+/// A read failed. The bytes that were read before it must not be taken for the whole.
+#[derive(Clone, Copy, Debug, PartialEq, Eq)]
+pub struct Unread {
     pub bytes: usize,
-    pub failed: bool,
 }
 
-// One read into the front of a room: no bytes at the input's end, or where it cannot be read.
-fn read_once<R: Read>(reader: &mut R, room: &mut [u8]) -> Input
-    ensures { result.bytes ≤ length room.new }
-{
-    match reader.read(room) {
-        Ok(bytes) => Input {
-            bytes,
-            failed: false,
-        },
-        Err(_) => Input {
-            bytes: 0,
-            failed: true,
-        },
-    }
-}
-
-// Reads into the front of a room, until the room is full, the input ends or a read fails. That it failed is told: what was read by then must not be
-// taken for the whole.
-pub fn read_input<R: Read>(reader: &mut R, room: &mut [u8]) -> Input
-    ensures { result.bytes ≤ length room.new }
+/// Reads into the front of a room, until the room is full or the input ends, and says how many bytes there are.
+///
+/// # Errors
+/// A read failed: how many bytes were read by then.
+pub fn read_input<R: Read>(reader: &mut R, room: &mut [u8]) -> Result<usize, Unread>
+    ensures read { IfOk result (λ bytes. bytes ≤ length room.new) }
+    ensures unread { IfErr result (λ cut. cut.bytes ≤ length room.new) }
 {
     let mut bytes = 0;
     while bytes < room.len() {
-        let more = read_once(reader, &mut room[bytes..]);
-        if more.bytes == 0 {
-            return Input {
-                bytes,
-                failed: more.failed,
-            };
+        match reader.read(&mut room[bytes..]) {
+            Ok(0) => break,
+            Ok(more) => bytes += more,
+            Err(_) => return Err(Unread { bytes }),
         }
-        bytes += more.bytes;
     }
-    Input {
-        bytes,
-        failed: false,
-    }
+    Ok(bytes)
 }

@@ -13,12 +13,11 @@ pub fn read_whole<'a, R: Read, W: Write>(
 ) -> Option<&'a [u8]>
     ensures { IfSome result (λ read. length read.now ≤ length room.old) }
 {
-    let input = read_input(reader, room);
-    if input.failed {
+    let Ok(bytes) = read_input(reader, room) else {
         let _ = writeln!(errors, "{program}: standard input cannot be read");
         return None;
-    }
-    Some(&room[..input.bytes])
+    };
+    Some(&room[..bytes])
 }
 
 /// Writes what a program made, and says whether that could be done; where it could not, a line in the program's name says so.

@@ -1,3 +1,2 @@
 -- Laws behind single functions.
-mod Parts
 mod Changes

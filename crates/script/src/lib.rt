@@ -1,5 +1,5 @@
-// What the test programs share. Each takes a script of items from standard input, hands their bytes to the libraries that it tries, and prints what
-// they answer: reading the script, stretches of it, where a program stands in it, lent rooms, and the transcript.
+//! What the test programs share. Each takes a script of items from standard input, hands their bytes to the libraries that it tries, and prints what
+//! they answer: reading the script, stretches of it, where a program stands in it, lent rooms, and the transcript.
 #![tactic(auto)]
 
 ghost use Rattle.io.specs.Counts.{IsPrefixLen};
@@ -19,8 +19,8 @@ fn has_more() -> bool {
     io::read_full(0, &mut next) != 0
 }
 
-// Reads the script into the front of a room, and says how many bytes it has. Of one that is longer than the room nothing is taken: `too long` is
-// printed, and the script counts as empty.
+/// Reads the script into the front of a room, and says how many bytes it has. Of one that is longer than the room nothing is taken: `too long` is
+/// printed, and the script counts as empty.
 pub fn read(room: &mut [u8]) -> usize
     ensures { IsPrefixLen result room.new }
 {

@@ -1,11 +1,11 @@
-// The transcript: text is collected in a lent buffer, which is written out when it is full. Each function takes the buffer and how much of it is
-// used, and answers how much is used afterwards. `number` and `hex` put a blank before what they print.
+//! The transcript: text is collected in a lent buffer, which is written out when it is full. Each function takes the buffer and how much of it is
+//! used, and answers how much is used afterwards. `number` and `hex` put a blank before what they print.
 use super::{bytes, take};
 
-// Writes out what the buffer holds, and begins it anew.
+/// Writes out what the buffer holds, and begins it anew.
 pub fn flush(out: &[u8], used: usize) -> usize {
     if used <= out.len() {
-        io::write_all(1, &out[0..used]);
+        io::write_all(1, &out[..used]);
     }
     0
 }
@@ -23,32 +23,28 @@ fn byte(out: &mut [u8], used: usize, b: u8) -> usize {
     1
 }
 
-// Text as it is.
+/// Text as it is.
 pub fn text(out: &mut [u8], used: usize, s: &[u8]) -> usize {
     let mut next = used;
-    let mut i: usize = 0;
-    while i < s.len() {
-        next = byte(out, next, s[i]);
-        i += 1;
+    for &b in s {
+        next = byte(out, next, b);
     }
     next
 }
 
-// A word: what stands before the first blank.
+/// A word: what stands before the first blank.
 pub fn word(out: &mut [u8], used: usize, s: &[u8]) -> usize {
     let mut next = byte(out, used, b' ');
-    let mut i: usize = 0;
-    while i < s.len() {
-        if s[i] == b' ' {
-            return next;
+    for &b in s {
+        if b == b' ' {
+            break;
         }
-        next = byte(out, next, s[i]);
-        i += 1;
+        next = byte(out, next, b);
     }
     next
 }
 
-// A number in decimal.
+/// A number in decimal.
 pub fn number(out: &mut [u8], used: usize, n: u64) -> usize {
     let mut digits = [0u8; 20];
     let count = io::decimal(n, &mut digits);
@@ -65,36 +61,34 @@ fn pair(out: &mut [u8], used: usize, b: u8) -> usize {
 
 fn pairs(out: &mut [u8], used: usize, s: &[u8]) -> usize {
     let mut next = used;
-    let mut i: usize = 0;
-    while i < s.len() {
-        next = pair(out, next, s[i]);
-        i += 1;
+    for &b in s {
+        next = pair(out, next, b);
     }
     next
 }
 
-// Bytes in hex; nothing, not even the blank, where there are none.
+/// Bytes in hex; nothing, not even the blank, where there are none.
 pub fn hex(out: &mut [u8], used: usize, s: &[u8]) -> usize {
-    if s.len() == 0 {
+    if s.is_empty() {
         return used;
     }
     let used = byte(out, used, b' ');
     pairs(out, used, s)
 }
 
-// The end of a line.
+/// The end of a line.
 pub fn end(out: &mut [u8], used: usize) -> usize {
     byte(out, used, b'\n')
 }
 
-// A line of a word and bytes in hex.
+/// A line of a word and bytes in hex.
 pub fn bytes_line(out: &mut [u8], used: usize, word: &[u8], s: &[u8]) -> usize {
     let used = text(out, used, word);
     let used = hex(out, used, s);
     end(out, used)
 }
 
-// Such a line for each of the first so many pieces of one size, as far as there are whole ones.
+/// Such a line for each of the first so many pieces of one size, as far as there are whole ones.
 pub fn piece_lines(
     out: &mut [u8],
     used: usize,
@@ -105,15 +99,13 @@ pub fn piece_lines(
 ) -> usize {
     let mut next = used;
     let mut from: usize = 0;
-    let mut i: usize = 0;
-    while i < count {
+    for _ in 0..count {
         let piece = take(s, from, size);
         if !piece.whole {
-            return next;
+            break;
         }
         next = bytes_line(out, next, word, bytes(s, piece));
         from = piece.to;
-        i += 1;
     }
     next
 }

@@ -1,43 +1,44 @@
-// Lent rooms: how long one is, what it holds at first, and whether it is as it was behind what a call put there.
+//! Lent rooms: how long one is, what it holds at first, and whether it is as it was behind what a call put there.
 ghost use Rattle.std.specs.Prelude.{min, ◌≡◌};
-ghost use Rattle.script.specs.Rooms.{byte_fill, first_changed};
+ghost use Rattle.script.specs.Rooms.{byte_fill, first_changed, first_other};
 
 use super::output;
 
-// What a room of bytes holds at first.
+/// What a room of bytes holds at first.
 pub const FILL: u8 = 0xaa;
 
-// The largest room whose length is one byte, and the largest whose length is two; a longer one counts as this.
+/// The largest room whose length is one byte, and the largest whose length is two; a longer one counts as this.
 pub const SHORT: usize = 255;
 
 pub const LARGEST: usize = 13000;
 
-// A room's length; one above the most counts as the most.
+/// A room's length; one above the most counts as the most.
 pub fn capped(length: u16, most: usize) -> usize
     ensures { result ≡ min length most }
 {
-    if (length as usize) < most {
-        length as usize
-    } else {
-        most
-    }
+    most.min(length as usize)
 }
 
-// Where the first byte from this place on stands that is not as it was; behind the room where all are.
+// Where the first value from this place on stands that is not the filling; behind the room where all are.
+pub(crate) fn first_other<T: Copy + PartialEq>(room: &[T], fill: T, from: usize) -> usize
+    ensures { result ≡ first_other T.eq fill room.now from }
+{
+    for i in from..room.len() {
+        if room[i] != fill {
+            return i;
+        }
+    }
+    from.max(room.len())
+}
+
+/// Where the first byte from this place on stands that is not as it was; behind the room where all are.
 pub fn first_changed(room: &[u8], from: usize) -> usize
     ensures { result ≡ first_changed byte_fill room.now from }
 {
-    let mut i = from;
-    while i < room.len() {
-        if room[i] != FILL {
-            return i;
-        }
-        i += 1;
-    }
-    i
+    first_other(room, FILL, from)
 }
 
-// `rest same`, or `rest` and the place that was changed first, of a room of this length.
+/// `rest same`, or `rest` and the place that was changed first, of a room of this length.
 pub fn rest(out: &mut [u8], used: usize, changed: usize, length: usize) -> usize {
     let used = output::text(out, used, b"rest");
     if changed < length {
@@ -48,7 +49,7 @@ pub fn rest(out: &mut [u8], used: usize, changed: usize, length: usize) -> usize
     }
 }
 
-// The same of a room of bytes, from this place on.
+/// The same of a room of bytes, from this place on.
 pub fn rest_line(out: &mut [u8], used: usize, room: &[u8], from: usize) -> usize {
     rest(out, used, first_changed(room, from), room.len())
 }

@@ -1,5 +1,5 @@
-// What the test programs print of a refusal: its code, the line or command that it is of, and what was wrong with the number. It is no part of
-// `script`, which knows nothing of commands.
+//! What the test programs print of a refusal: its code, the line or command that it is of, and what was wrong with the number. It is no part of
+//! `script`, which knows nothing of commands.
 #![tactic(auto)]
 
 use script::{output, rooms};
@@ -13,22 +13,20 @@ fn wrong(out: &mut [u8], used: usize, stray: Stray) -> usize {
     output::number(out, used, stray.high as u64)
 }
 
-// A code, and what was wrong with the number: ` CODE PAR VALUE LOW HIGH`.
+/// A code, and what was wrong with the number: ` CODE PAR VALUE LOW HIGH`.
 pub fn told(out: &mut [u8], used: usize, told: Told) -> usize {
-    let stray = told.stray;
     let used = output::number(out, used, told.code as u64);
-    wrong(out, used, stray)
+    wrong(out, used, told.stray)
 }
 
-// A code, the line or command that it is of, and what was wrong with the number: ` CODE NUMBER PAR VALUE LOW HIGH`.
+/// A code, the line or command that it is of, and what was wrong with the number: ` CODE NUMBER PAR VALUE LOW HIGH`.
 pub fn numbered(out: &mut [u8], used: usize, told: Told, number: u32) -> usize {
-    let stray = told.stray;
     let used = output::number(out, used, told.code as u64);
     let used = output::number(out, used, number as u64);
-    wrong(out, used, stray)
+    wrong(out, used, told.stray)
 }
 
-// The same and the bytes written, so many at the front of a room, which end the line; then the line of the room's rest.
+/// The same and the bytes written, so many at the front of a room, which end the line; then the line of the room's rest.
 pub fn written(
     out: &mut [u8],
     used: usize,
