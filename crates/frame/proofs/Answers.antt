@@ -1,17 +1,16 @@
 -- The answers of the reader and of the writer, one law to an outcome.
 use Prim.Native.Nat.{ℕ}
-use mathlib.Core.Path.{◌≡◌, sym, ap, ◌∙◌}
-use mathlib.Core.List.{List, [], ◌∷◌}
-use mathlib.Core.Bool.{Bool, true, false}
-use lib.ListN.{length}
+use mathlib.Core.Path.{◌≡◌, refl, sym}
+use mathlib.Core.List.{List, [], ◌∷◌, ◌++◌}
+use mathlib.Core.Bool.{Bool, true, false, cond, not}
+use lib.ListN.{length, drop}
+use lib.Dec.{eqb}
 use borrow.Author.Tests.{eq-eqb, ne_eqb}
-use Rattle.words.specs.BigEndian.{bytes_of, has_room, written}
+use Rattle.words.specs.BigEndian.{has_room, written}
 use Rattle.frame.specs.declared.Frame.{Frame}
 use Rattle.frame.specs.Rules.{frame_rule}
 use Rattle.frame.specs.Bytes.{frame_bytes, frame_at, spare_bits_zero, count_holds}
 use Rattle.frame.specs.Answers.{Answer, read_of, write_code, room_after}
-use Rattle.frame.proofs.Laws.{Held}
-use Rattle.frame.proofs.Bytes.{frame_words, words_bytes}
 
 abbrev pub refused_with : ℕ → Answer
 refused_with code = record { code = code; taken = [] }
@@ -47,19 +46,21 @@ pub wrote_broken : (f : Frame) (room : List ℕ) → frame_rule f ≡ false → 
 unfolding room_after
 wrote_broken f room e = (sym (simp e), sym (simp e))
 
--- What the writer answers and leaves once the eight words were offered to the room: they all fitted, or nothing was written.
-pub record Outcome (f : Frame) (room left : List ℕ) (fitted : Bool) : Type 0 where
-  pub all : fitted ≡ true → (0 ≡ write_code f room) × (left ≡ room_after f room)
-  pub nothing : fitted ≡ false → (24 ≡ write_code f room) × (left ≡ room_after f room)
+-- The fields obey: the bytes had no room, or all of them had, and the room is left accordingly.
+pub wrote_none : (f : Frame) (room : List ℕ) → frame_rule f ≡ true → has_room (frame_bytes f) room ≡ false → 24 ≡ write_code f room
+unfolding write_code
+wrote_none f room obeys short = sym (simp (obeys, short))
 
-pub outcome : (f : Frame) (room left ws : List ℕ) (fitted : Bool) → Held f → frame_rule f ≡ true → ws ≡ frame_words f
-    → fitted ≡ has_room (bytes_of ws) room → left ≡ written (bytes_of ws) room → Outcome f room left fitted
+pub wrote_all : (f : Frame) (room : List ℕ) → frame_rule f ≡ true → has_room (frame_bytes f) room ≡ true → 0 ≡ write_code f room
+unfolding write_code
+wrote_all f room obeys fits = sym (simp (obeys, fits))
+
+pub room_left : (f : Frame) (room : List ℕ) → frame_rule f ≡ true → written (frame_bytes f) room ≡ room_after f room
 unfolding room_after
-outcome f room left ws fitted held obeys made answer put =
-    let bytes : bytes_of ws ≡ frame_bytes f = ap bytes_of made ∙ words_bytes f held in
-    let told : has_room (frame_bytes f) room ≡ fitted = sym (answer ∙ ap (λ bs. has_room bs room) bytes) in
-    let stands : left ≡ written (frame_bytes f) room = put ∙ ap (λ bs. written bs room) bytes in
-    record {
-      all = λ e. (sym (simp (obeys, told ∙ e)), stands ∙ sym (simp (obeys, told ∙ e)));
-      nothing = λ e. (sym (simp (obeys, told ∙ e)), stands ∙ sym (simp (obeys, told ∙ e)));
-    }
+room_left f room obeys = sym (rw obeys (go (has_room (frame_bytes f) room)))
+  where
+    go : (fits : Bool)
+        → cond (eqb (cond (not fits) 24 0) 0) (cond fits (frame_bytes f ++ drop 32 room) room) room
+        ≡ cond fits (frame_bytes f ++ drop 32 room) room
+    go true = refl
+    go false = refl

@@ -6,5 +6,4 @@ pub mod Unique
 pub mod RoundTrip
 pub mod Calls
 pub mod Answers
-pub mod Bytes
 pub mod Modes

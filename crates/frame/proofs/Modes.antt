@@ -1,6 +1,5 @@
 -- Byte 24: each of its flags is a bit, and the whole is below 64 where the algorithm is in range.
 use Prim.Native.Nat.{ℕ, ◌≤◌}
-use mathlib.Core.Path.{◌≡◌}
 use mathlib.Core.Bool.{Bool, true, false}
 use native.Mathlib.Omega.{arith}
 use Rattle.frame.specs.Bytes.{bit, modes_of}
@@ -8,10 +7,6 @@ use Rattle.frame.specs.Bytes.{bit, modes_of}
 pub bit_le : (on : Bool) → bit on ≤ 1
 bit_le false = omega arith
 bit_le true = omega arith
-
--- A call's answer that is a bit is at most 1.
-pub is_bit : {r : ℕ} (on : Bool) → r ≡ bit on → r ≤ 1
-is_bit {r} on e = omega (arith, e, bit_le on)
 
 pub modes_le : (power auto looping : Bool) (algorithm : ℕ) → algorithm ≤ 2 → modes_of power auto looping algorithm ≤ 39
 modes_le power auto looping algorithm h = omega (arith, bit_le power, bit_le auto, bit_le looping)

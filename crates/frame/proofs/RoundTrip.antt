@@ -1,7 +1,7 @@
 -- Frames can be written as well as read, and come back equal.
 use Prim.Native.Nat.{ℕ, zero, suc, ◌+◌, ◌/◌, ◌%◌, ◌<◌, ◌≤◌, ◌^◌}
-use mathlib.Core.Path.{◌≡◌, refl, sym, ap, ◌∙◌}
-use mathlib.Core.List.{List, [], ◌∷◌}
+use mathlib.Core.Path.{◌≡◌, refl, sym, ap, ap₂, ◌∙◌}
+use mathlib.Core.List.{List, [], ◌∷◌, ◌++◌}
 use mathlib.Core.Bool.{Bool, true, false, ◌&&◌}
 use native.Mathlib.Omega.{arith}
 use lib.ListN.{length, get_or}
@@ -9,18 +9,16 @@ use lib.Seq.{take_all}
 use lib.Count.{ones, ones-le}
 use lib.Dec.{eqb}
 use borrow.Author.Tests.{eq-eqb, eqb-true, eqb-false, not-false}
-use Rattle.words.specs.BigEndian.{byte_at, half_at, word_at, bytes_of}
+use Rattle.words.specs.BigEndian.{byte_at, half_at, word_at, half_bytes, word_bytes}
 use Rattle.words.proofs.Tests.{both}
 use Rattle.words.proofs.Order.{due_none}
-use Rattle.words.proofs.Front.{Bytes, half_back, word_back, front_words, front_made}
+use Rattle.words.proofs.Front.{Bytes, half_back, word_back, bytes_back, front_bytes, front_bytes_lem}
 use Rattle.frame.specs.declared.Frame.{Frame}
 use Rattle.frame.specs.Rules.{frame_rule}
 use Rattle.frame.specs.Bytes.{bit, modes_of, frame_bytes, frame_at, spare_bits_zero, count_holds}
-use Rattle.frame.specs.Steps.{modes_word, macros_word}
 use Rattle.frame.specs.Answers.{read_checks, read_code, read_of}
 use Rattle.frame.proofs.Laws.{Held, ruled}
 use Rattle.frame.proofs.Modes.{bit_le, modes_le}
-use Rattle.frame.proofs.Bytes.{frame_words, frame_words_lem, words_bytes}
 use Rattle.frame.proofs.Answers.{taken_as, taken}
 
 -- Byte 24 gives back each flag and the algorithm, and its spare bits are zero.
@@ -171,16 +169,35 @@ modes_again v third top =
     let by64 : v / 64 ≡ v / 16 / 4 = omega arith in
     rw (bit_of_eqb (v % 2) (omega arith), bit_of_eqb (v / 2 % 2) (omega arith), bit_of_eqb (v / 4 % 2) (omega arith)) (omega arith)
 
--- The words of the frame that was read are the words that the bytes say.
-words_again : (s : List ℕ) → Accepted s → frame_words (frame_at s) ≡ front_words s 8
-words_again s known =
-    let modes : word_at s 24 ≡ modes_word (frame_at s) = omega (arith, modes_again (byte_at s 24) known.spare3 known.spare67) in
-    let macros : word_at s 28 ≡ macros_word (frame_at s) = omega (arith, known.count) in
-    sym (frame_words_lem (frame_at s) refl refl refl refl modes macros)
+-- Numbers that were read of some bytes are those bytes.
+half_again : (s : List ℕ) → Bytes s → (i : ℕ) → half_bytes (half_at s i) ≡ byte_at s i ∷ byte_at s (i + 1) ∷ []
+half_again s b i =
+    let low = b (i + 1) in
+    let high : half_at s i / 256 ≡ byte_at s i = omega arith in
+    let rest : half_at s i % 256 ≡ byte_at s (i + 1) = omega arith in
+    rw (high, rest)
 
--- Writing the frame that was read gives the bytes again.
+word_again : (s : List ℕ) → Bytes s → (i : ℕ)
+    → word_bytes (word_at s i) ≡ byte_at s i ∷ byte_at s (i + 1) ∷ byte_at s (i + 2) ∷ byte_at s (i + 2 + 1) ∷ []
+word_again s b i = bytes_back (byte_at s i) (byte_at s (i + 1)) (byte_at s (i + 2)) (byte_at s (i + 2 + 1)) (b i) (b (i + 1)) (b (i + 2)) (b (i + 2 + 1))
+
+-- Writing the frame that was read gives the bytes again: they are the first 32 of them, part by part.
 pub written_read : (s : List ℕ) → Bytes s → read_code s ≡ 0 → frame_bytes (frame_at s) ≡ s
 written_read s b e =
     let known = accepted s e in
-    sym (words_bytes (frame_at s) (read_held s b)) ∙ ap bytes_of (words_again s known) ∙ front_made s 8 b (omega (arith, known.size))
-    ∙ take_all 32 s (omega (arith, known.size))
+    let modes = modes_again (byte_at s 24) known.spare3 known.spare67 in
+    let half = half_again s b in
+    let all : frame_bytes (frame_at s) ≡ front_bytes s 32 =
+    ap₂ ◌++◌ (half 0)
+    (ap₂ ◌++◌ (half 2)
+    (ap₂ ◌++◌ (half 4)
+    (ap₂ ◌++◌ (half 6)
+    (ap₂ ◌++◌ (half 8)
+    (ap₂ ◌++◌ (half 10)
+    (ap₂ ◌++◌ (half 12)
+    (ap₂ ◌++◌ (half 14)
+    (ap₂ ◌++◌ (word_again s b 16)
+    (ap₂ ◌++◌ (word_again s b 20)
+    (ap₂ (λ v l. v ∷ byte_at s 25 ∷ byte_at s 26 ∷ byte_at s 27 ∷ l) modes
+    (ap₂ ◌++◌ (half 28) (ap (λ v. byte_at s 30 ∷ v ∷ []) (sym known.count))))))))))))) in
+    all ∙ front_bytes_lem s 32 (omega (arith, known.size)) ∙ take_all 32 s (omega (arith, known.size))

@@ -7,8 +7,7 @@ use lib.Dec.{eqb}
 use Rattle.words.proofs.Laws.{one_to_one}
 use Rattle.frame.specs.declared.Frame.{Frame}
 use Rattle.frame.specs.declared.Refusal.{Refusal}
-use Rattle.frame.specs.declared.Reading.{Reading}
-use Rattle.frame.specs.declared.Writing.{Writing}
+use Rattle.std.specs.Prelude.{Result, Ok, Err}
 use Rattle.frame.specs.Answers.{Answer, code_of, answer_of, wrote_of}
 
 -- The refusal with a code.
@@ -25,31 +24,31 @@ pub one_refusal : (x y : Refusal) → code_of x ≡ code_of y → x ≡ y
 one_refusal = one_to_one code_of refusal_of refusal_back
 
 -- The reading with an answer.
-abbrev reading_of : Answer → Reading
+abbrev reading_of : Answer → Result Frame Refusal
 reading_of a = from a.taken
   where
-    from : List Frame → Reading
-    from [] = Reading.Refused (refusal_of a.code)
-    from (f ∷ fs) = Reading.Taken f
+    from : List Frame → Result Frame Refusal
+    from [] = Err (refusal_of a.code)
+    from (f ∷ fs) = Ok f
 
-reading_back : (r : Reading) → reading_of (answer_of r) ≡ r
-reading_back (Reading.Taken f) = refl
-reading_back (Reading.Refused refusal) = ap Reading.Refused (refusal_back refusal)
+reading_back : (r : Result Frame Refusal) → reading_of (answer_of r) ≡ r
+reading_back (Ok f) = refl
+reading_back (Err refusal) = ap Err (refusal_back refusal)
 
 -- No two readings say the same: `read_frame` has one result.
-pub one_reading : (x y : Reading) → answer_of x ≡ answer_of y → x ≡ y
+pub one_reading : (x y : Result Frame Refusal) → answer_of x ≡ answer_of y → x ≡ y
 one_reading = one_to_one answer_of reading_of reading_back
 
 -- The writing with a code.
-abbrev writing_of : ℕ → Writing
-writing_of code = cond (eqb code 0) Writing.Written (Writing.Refused (refusal_of code))
+abbrev writing_of : ℕ → Result Unit Refusal
+writing_of code = cond (eqb code 0) (Ok tt) (Err (refusal_of code))
 
-writing_back : (w : Writing) → writing_of (wrote_of w) ≡ w
-writing_back Writing.Written = refl
-writing_back (Writing.Refused Refusal.WrongSize) = refl
-writing_back (Writing.Refused Refusal.RuleBroken) = refl
-writing_back (Writing.Refused Refusal.NoRoom) = refl
+writing_back : (w : Result Unit Refusal) → writing_of (wrote_of w) ≡ w
+writing_back (Ok tt) = refl
+writing_back (Err Refusal.WrongSize) = refl
+writing_back (Err Refusal.RuleBroken) = refl
+writing_back (Err Refusal.NoRoom) = refl
 
 -- No two writings say the same: `write_frame` has one result.
-pub one_writing : (x y : Writing) → wrote_of x ≡ wrote_of y → x ≡ y
+pub one_writing : (x y : Result Unit Refusal) → wrote_of x ≡ wrote_of y → x ≡ y
 one_writing = one_to_one wrote_of writing_of writing_back

@@ -1,11 +1,9 @@
 -- 01's codes for frames: reading tries 22, then 23; writing tries 23, then 24.
-use Rattle.std.specs.Prelude.{ℕ, List, [], ◌∷◌, Bool, cond, not, ◌&&◌, length, eqb}
+use Rattle.std.specs.Prelude.{ℕ, List, [], ◌∷◌, Bool, cond, not, ◌&&◌, length, eqb, Result, Ok, Err}
 use Rattle.words.specs.BigEndian.{has_room, written}
-use Rattle.words.specs.Codes.{Check, ◌when◌, first_of}
+use Rattle.words.specs.Codes.{Check, ◌when◌, first_of, answer_code}
 use Rattle.frame.specs.declared.Frame.{Frame}
 use Rattle.frame.specs.declared.Refusal.{Refusal}
-use Rattle.frame.specs.declared.Reading.{Reading}
-use Rattle.frame.specs.declared.Writing.{Writing}
 use Rattle.frame.specs.Rules.{frame_rule}
 use Rattle.frame.specs.Bytes.{frame_bytes, frame_at, spare_bits_zero, count_holds}
 
@@ -20,9 +18,9 @@ pub record Answer : Type 0 where
   pub code : ℕ
   pub taken : List Frame
 
-abbrev pub answer_of : Reading → Answer
-answer_of (Reading.Taken f) = record { code = 0; taken = f ∷ [] }
-answer_of (Reading.Refused refusal) = record { code = code_of refusal; taken = [] }
+abbrev pub answer_of : Result Frame Refusal → Answer
+answer_of (Ok f) = record { code = 0; taken = f ∷ [] }
+answer_of (Err refusal) = record { code = code_of refusal; taken = [] }
 
 -- A field against its rule.
 abbrev pub rule_broken : List ℕ → Bool
@@ -40,9 +38,8 @@ unfolding read_code
 read_of s = record { code = read_code s; taken = cond (eqb (read_code s) 0) (frame_at s ∷ []) [] }
 
 -- What a writing says.
-abbrev pub wrote_of : Writing → ℕ
-wrote_of Writing.Written = 0
-wrote_of (Writing.Refused refusal) = code_of refusal
+abbrev pub wrote_of : Result Unit Refusal → ℕ
+wrote_of = answer_code code_of
 
 -- Frame writing: 23, then 24.
 abbrev pub write_checks : Frame → List ℕ → List Check

@@ -1,5 +1,4 @@
--- The status frame: 01, "Status frame, 32 bytes"; last, steps of the code.
+-- The status frame: 01, "Status frame, 32 bytes".
 pub mod Rules
 pub mod Bytes
 pub mod Answers
-pub mod Steps

@@ -1,15 +1,20 @@
 // The status frame of 32 bytes: its fields, the rules on them, reading (22, then 23) and writing (23, then 24).
 #![tactic(auto)]
 
-ghost use Rattle.std.specs.Prelude.{◌+◌, ◌*◌, ◌≤◌, ◌≡◌, eqb};
+ghost use Rattle.std.proofs.Common.{rules};
+ghost use Rattle.std.specs.Int.Count.{ones};
+ghost use Rattle.std.specs.List.{flat_map};
+ghost use Rattle.std.specs.Prelude.{◌+◌, ◌≤◌, ◌≡◌, ◌&&◌, [], ◌∷◌, ◌++◌, eqb};
+ghost use Rattle.words.specs.BigEndian.{half_bytes};
 ghost use Rattle.wire.specs.Table.{row_of};
 ghost use Rattle.wire.specs.Judge.{first_bad};
 ghost use Rattle.frame.specs.Rules.{intervals_hold, ranges_hold, macro_or_none, numbers_hold, left_holds, marked, marks_hold, frame_rule};
-ghost use Rattle.frame.specs.Bytes.{bit, modes_of, pace_at, frame_at, spare_bits_zero, count_holds};
-ghost use Rattle.frame.specs.Steps.{modes_word, macros_word};
+ghost use Rattle.frame.specs.Bytes.{modes_of, frame_bytes, pace_at, frame_at, spare_bits_zero, count_holds};
 ghost use Rattle.frame.specs.Answers.{code_of, answer_of, read_of, wrote_of, write_code, room_after};
+ghost use Rattle.frame.specs.declared.Refusal.TheVariants.{NoRoom};
 
 use wire::Form;
+use words::{Code, NoRoom};
 
 // A series of images as the frame has it: the seconds that it still runs, the interval, the images so far.
 #[derive(Clone, Copy)]
@@ -39,23 +44,34 @@ pub struct Frame {
     pub closed: u8,
 }
 
-#[derive(Clone, Copy)]
+/// Why a frame is refused: 22 and 23 in reading, 23 and 24 in writing.
+#[derive(Clone, Copy, Debug, PartialEq, Eq)]
 pub enum Refusal {
     WrongSize,
     RuleBroken,
     NoRoom,
 }
 
-#[derive(Clone, Copy)]
-pub enum Reading {
-    Taken(Frame),
-    Refused(Refusal),
+impl Code for Refusal {
+    ghost code = { code_of };
+
+    ghost refuses = { Prim.search rules };
+
+    fn code(&self) -> u8 {
+        match self {
+            Refusal::WrongSize => 22,
+            Refusal::RuleBroken => 23,
+            Refusal::NoRoom => 24,
+        }
+    }
 }
 
-#[derive(Clone, Copy)]
-pub enum Writing {
-    Written,
-    Refused(Refusal),
+impl From<NoRoom> for Refusal {
+    ghost from_gives = { λ _ refusal. refusal ≡ NoRoom };
+
+    fn from(_: NoRoom) -> Refusal {
+        Refusal::NoRoom
+    }
 }
 
 // The bytes of a frame.
@@ -67,115 +83,64 @@ const NONE: u8 = 255;
 
 const LONGEST: u16 = 600;
 
-// The code of a refusal.
-pub fn code_of(refusal: Refusal) -> u8
-    ensures { result ≡ code_of refusal }
-{
-    match refusal {
-        Refusal::WrongSize => 22,
-        Refusal::RuleBroken => 23,
-        Refusal::NoRoom => 24,
-    }
-}
-
 fn intervals_hold(f: Frame) -> bool
     ensures { result ≡ intervals_hold f }
 {
-    if f.image.interval < 1 {
-        return false;
-    }
-    1 <= f.track.interval
+    1 <= f.image.interval && 1 <= f.track.interval
 }
 
 // Would a command of this form have both arguments in range?
 fn in_range(form: Form, first: u32, second: u32) -> bool
     ensures { result ≡ eqb (first_bad (row_of form) first second) 0 }
 {
-    wire::first_bad(wire::row_of(form), first, second) == 0
+    wire::first_bad(wire::row_of(form), first, second).is_none()
 }
 
 fn ranges_hold(f: Frame) -> bool
     ensures { result ≡ ranges_hold f }
 {
-    if !in_range(Form::ImgRegion, f.x as u32, f.y as u32) {
-        return false;
-    }
-    if !in_range(Form::TrkGoal, f.xgoal, f.ygoal) {
-        return false;
-    }
-    in_range(Form::TrkAlg, f.algorithm as u32, 0)
+    in_range(Form::ImgRegion, u32::from(f.x), u32::from(f.y))
+        && in_range(Form::TrkGoal, f.xgoal, f.ygoal)
+        && in_range(Form::TrkAlg, u32::from(f.algorithm), 0)
 }
 
 fn macro_or_none(m: u8) -> bool
     ensures { result ≡ macro_or_none m }
 {
-    if m < MACROS {
-        return true;
-    }
-    m == NONE
+    m < MACROS || m == NONE
 }
 
 fn numbers_hold(f: Frame) -> bool
     ensures { result ≡ numbers_hold f }
 {
-    if macro_or_none(f.running) {
-        macro_or_none(f.opened)
-    } else {
-        false
-    }
+    macro_or_none(f.running) && macro_or_none(f.opened)
 }
 
 fn left_holds(f: Frame) -> bool
     ensures { result ≡ left_holds f }
 {
-    if f.running == NONE {
-        return f.left == 0;
-    }
-    if f.left == 0 {
-        return false;
-    }
-    f.left <= LONGEST
+    (f.left == 0) == (f.running == NONE) && f.left <= LONGEST
 }
 
 // Bit m of a byte of marks.
 fn is_marked(marks: u8, m: u8) -> bool
     ensures { result ≡ marked marks m }
 {
-    if m < MACROS {
-        (marks >> m) % 2 == 1
-    } else {
-        false
-    }
+    m < MACROS && (marks >> m) % 2 == 1
 }
 
 fn marks_hold(f: Frame) -> bool
     ensures { result ≡ marks_hold f }
 {
-    if f.running != NONE {
-        if !is_marked(f.closed, f.running) {
-            return false;
-        }
-    }
-    !is_marked(f.closed, f.opened)
+    (f.running == NONE || is_marked(f.closed, f.running)) && !is_marked(f.closed, f.opened)
 }
 
-// Do the fields obey the rules of the status frame?
+/// Do the fields obey the rules of the status frame? Rules: "Status frame, 32 bytes".
+#[tactic(auto, unfolding(crate::specs::Rules::frame_rule))]
 pub fn obeys(f: Frame) -> bool
     ensures { result ≡ frame_rule f }
 {
-    if !intervals_hold(f) {
-        return false;
-    }
-    if !ranges_hold(f) {
-        return false;
-    }
-    if !numbers_hold(f) {
-        return false;
-    }
-    if !left_holds(f) {
-        return false;
-    }
-    marks_hold(f)
+    intervals_hold(f) && ranges_hold(f) && numbers_hold(f) && left_holds(f) && marks_hold(f)
 }
 
 // A series: its time, the interval behind it, and its count elsewhere.
@@ -221,102 +186,96 @@ fn spare_bits_zero(s: &[u8]) -> bool
     ensures { result ≡ spare_bits_zero s.now }
 {
     let modes = words::byte_at(s, 24);
-    if modes / 8 % 2 == 0 {
-        modes / 64 == 0
-    } else {
-        false
-    }
+    modes / 8 % 2 == 0 && modes / 64 == 0
 }
 
 fn count_holds(s: &[u8]) -> bool
     ensures { result ≡ count_holds s.now }
 {
-    let count = words::byte_at(s, 31) as u32;
-    let ones = u8::count_ones(words::byte_at(s, 30));
-    count == ones
+    let ones = words::byte_at(s, 30).count_ones();
+    u32::from(words::byte_at(s, 31)) == ones
 }
 
-// The frame that these bytes are.
-pub fn read_frame(s: &[u8]) -> Reading
+// Do these bytes, which say these fields, obey every rule?
+fn rules_hold(s: &[u8], f: Frame) -> bool
+    ensures { result ≡ (spare_bits_zero s.now && count_holds s.now && frame_rule f) }
+{
+    spare_bits_zero(s) && count_holds(s) && obeys(f)
+}
+
+/// The frame that these bytes are.
+///
+/// # Errors
+///
+/// 22 where they are not 32, then 23 where they break a rule of the status frame.
+#[tactic(auto, unfolding(crate::specs::Answers::read_of, crate::specs::Answers::read_code))]
+pub fn read_frame(s: &[u8]) -> Result<Frame, Refusal>
     ensures { answer_of result ≡ read_of s.now }
 {
     if s.len() != SIZE {
-        return Reading::Refused(Refusal::WrongSize);
-    }
-    if !spare_bits_zero(s) {
-        return Reading::Refused(Refusal::RuleBroken);
-    }
-    if !count_holds(s) {
-        return Reading::Refused(Refusal::RuleBroken);
+        return Err(Refusal::WrongSize);
     }
     let f = frame_at(s);
-    if obeys(f) {
-        Reading::Taken(f)
-    } else {
-        Reading::Refused(Refusal::RuleBroken)
+    if !rules_hold(s, f) {
+        return Err(Refusal::RuleBroken);
     }
+    Ok(f)
 }
 
-fn bit_of(on: bool) -> u32
-    ensures { result ≡ bit on }
+// Two numbers of 16 bits, one behind the other.
+fn pair(first: u16, second: u16) -> [u8; 4]
+    ensures { result ≡ half_bytes first ++ half_bytes second }
 {
-    if on { 1 } else { 0 }
-}
-
-// Two numbers of 16 bits as one of 32.
-fn pair(high: u16, low: u16) -> u32
-    ensures { result ≡ high * 65536 + low }
-{
-    (high as u32) * 65536 + (low as u32)
+    let [a, b] = first.to_be_bytes();
+    let [c, d] = second.to_be_bytes();
+    [a, b, c, d]
 }
 
 // Byte 24.
-fn modes_of(f: Frame) -> u32
+fn modes_of(f: Frame) -> u8
     requires { f.algorithm ≤ 2 }
     ensures { result ≡ modes_of f.power f.auto f.looping f.algorithm }
 {
-    bit_of(f.power) + bit_of(f.auto) * 2 + bit_of(f.looping) * 4 + (f.algorithm as u32) * 16
+    u8::from(f.power) + u8::from(f.auto) * 2 + u8::from(f.looping) * 4 + f.algorithm * 16
 }
 
-// Bytes 24 to 27 as one number.
-fn modes_word(f: Frame) -> u32
+// Bytes 28 to 31.
+fn macros_of(f: Frame) -> [u8; 4]
+    ensures { result ≡ half_bytes f.left ++ (f.closed ∷ ones f.closed ∷ []) }
+{
+    let [high, low] = f.left.to_be_bytes();
+    [high, low, f.closed, f.closed.count_ones() as u8]
+}
+
+// The bytes of a frame, four by four.
+fn bytes_of(f: Frame) -> [[u8; 4]; 8]
     requires { f.algorithm ≤ 2 }
-    ensures { result ≡ modes_word f }
+    ensures { flat_map (λ four. four) result ≡ frame_bytes f }
 {
-    modes_of(f) * 16777216
-        + (f.flushes as u32) * 65536
-        + (f.running as u32) * 256
-        + (f.opened as u32)
-}
-
-// Bytes 28 to 31 as one number.
-fn macros_word(f: Frame) -> u32
-    ensures { result ≡ macros_word f }
-{
-    (f.left as u32) * 65536 + (f.closed as u32) * 256 + u8::count_ones(f.closed)
-}
-
-// A frame at the front of a room.
-pub fn write_frame(f: Frame, room: &mut [u8]) -> Writing
-    ensures result_value { wrote_of result ≡ write_code f room.old }
-    ensures room_after { room.new ≡ room_after f room.old }
-{
-    if !obeys(f) {
-        return Writing::Refused(Refusal::RuleBroken);
-    }
-    let ws = [
+    [
         pair(f.image.time, f.image.interval),
         pair(f.track.time, f.track.interval),
         pair(f.image.count, f.track.count),
         pair(f.x, f.y),
-        f.xgoal,
-        f.ygoal,
-        modes_word(f),
-        macros_word(f),
-    ];
-    if words::put_words(room, &ws) {
-        Writing::Written
-    } else {
-        Writing::Refused(Refusal::NoRoom)
+        f.xgoal.to_be_bytes(),
+        f.ygoal.to_be_bytes(),
+        [modes_of(f), f.flushes, f.running, f.opened],
+        macros_of(f),
+    ]
+}
+
+/// Writes a frame at the front of a room; the rest of the room stays as it was.
+///
+/// # Errors
+///
+/// 23 where the fields break a rule of the status frame, then 24 where the room has fewer bytes than a frame. The room is then as it was.
+pub fn write_frame(f: Frame, room: &mut [u8]) -> Result<(), Refusal>
+    ensures result_value { wrote_of result ≡ write_code f room.old }
+    ensures room_after { room.new ≡ room_after f room.old }
+{
+    if !obeys(f) {
+        return Err(Refusal::RuleBroken);
     }
+    words::put_bytes(room, bytes_of(f).as_flattened())?;
+    Ok(())
 }

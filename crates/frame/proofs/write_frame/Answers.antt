@@ -1,64 +1,38 @@
--- `frame::write_frame` meets its contract: the eight words that `put_words` is handed are the frame's, so their bytes are its 32 (Bytes, Answers).
-use native.Mathlib.Omega.{arith}
-use Rattle.frame.proofs.Bytes.{frame_words_lem}
-use Rattle.words.proofs.Tests.{fails, holds}
+-- `frame::write_frame` meets its contract: the bytes that `put_bytes` is handed are the frame's, and they fit or nothing is written (Answers).
+use Rattle.std.proofs.Common.{◌≡◌, sym, ap, ◌∙◌, rules}
+use Rattle.std.specs.Prelude.{Err}
+use Rattle.frame.specs.declared.Refusal.{Refusal}
+use Rattle.frame.specs.Answers.{wrote_of}
 use Rattle.frame.proofs.Laws.{ruled}
-use Rattle.frame.proofs.Answers.{wrote_broken, Outcome, outcome}
-use mathlib.Core.Path.{ap}
-use mathlib.Core.Bool.{not}
+use Rattle.frame.proofs.Answers.{wrote_broken, wrote_none, wrote_all, room_left}
 use Rattle.frame.proofs.write_frame.Goals as goal
 
 pub returns-then-not-obeys-clause-result_value : goal.returns-then-not-obeys-clause-result_value
-returns-then-not-obeys-clause-result_value c = (wrote_broken c.args.f c.args.room.now (fails c.obeys.ensures (ap not c.if-not-obeys.true))).0
+returns-then-not-obeys-clause-result_value c = (wrote_broken c.args.f c.args.room.now (sym c.obeys.ensures ∙ c.if-not-obeys.true)).0
 
 pub returns-then-not-obeys-clause-room_after : goal.returns-then-not-obeys-clause-room_after
-returns-then-not-obeys-clause-room_after c = (wrote_broken c.args.f c.args.room.now (fails c.obeys.ensures (ap not c.if-not-obeys.true))).1
+returns-then-not-obeys-clause-room_after c = (wrote_broken c.args.f c.args.room.now (sym c.obeys.ensures ∙ c.if-not-obeys.true)).1
 
-pub modes_word-requires : goal.modes_word-requires
-modes_word-requires c =
-    let f = c.args.f in
-    (ruled f (holds c.obeys.ensures (ap not c.if-not-obeys.false))).algorithm
+pub bytes_of-requires : goal.bytes_of-requires
+bytes_of-requires c = (ruled c.args.f (sym c.obeys.ensures ∙ c.if-not-obeys.false)).algorithm
 
-pub returns-then-put_words-clause-result_value : goal.returns-then-put_words-clause-result_value
-returns-then-put_words-clause-result_value c =
-    let offered : Outcome c.args.f c.args.room.now c.put_words.new.room c.put_words.result = let f = c.args.f in
-    let made =
-    frame_words_lem f c.pair.ensures c.pair-2.ensures c.pair-3.ensures c.pair-4.ensures
-    c.modes_word.ensures c.macros_word.ensures
-    in
-    outcome f c.args.room.now c.put_words.new.room _ c.put_words.result (omega (arith, c.well_formed))
-    (holds c.obeys.ensures (ap not c.if-not-obeys.false)) made c.put_words.ensures.value c.put_words.ensures.room_after in
-    (offered.all c.if-put_words.true).0
+pub returns-in_err-put_bytes-clause-result_value : goal.returns-in_err-put_bytes-clause-result_value
+returns-in_err-put_bytes-clause-result_value c =
+    let is : c.from_residual.result ≡ Err Refusal.NoRoom = search rules in
+    let put = rw (c.as_flattened.ensures.value, c.bytes_of.ensures) at c.in_err-put_bytes.ensures.value in
+    ap wrote_of is ∙ wrote_none c.args.f c.args.room.now (sym c.obeys.ensures ∙ c.if-not-obeys.false) (sym put)
 
-pub returns-then-put_words-clause-room_after : goal.returns-then-put_words-clause-room_after
-returns-then-put_words-clause-room_after c =
-    let offered : Outcome c.args.f c.args.room.now c.put_words.new.room c.put_words.result = let f = c.args.f in
-    let made =
-    frame_words_lem f c.pair.ensures c.pair-2.ensures c.pair-3.ensures c.pair-4.ensures
-    c.modes_word.ensures c.macros_word.ensures
-    in
-    outcome f c.args.room.now c.put_words.new.room _ c.put_words.result (omega (arith, c.well_formed))
-    (holds c.obeys.ensures (ap not c.if-not-obeys.false)) made c.put_words.ensures.value c.put_words.ensures.room_after in
-    (offered.all c.if-put_words.true).1
+pub returns-in_err-put_bytes-clause-room_after : goal.returns-in_err-put_bytes-clause-room_after
+returns-in_err-put_bytes-clause-room_after c =
+    let put = rw (c.as_flattened.ensures.value, c.bytes_of.ensures) at c.in_err-put_bytes.ensures.room_after in
+    put ∙ room_left c.args.f c.args.room.now (sym c.obeys.ensures ∙ c.if-not-obeys.false)
 
-pub returns-else-put_words-clause-result_value : goal.returns-else-put_words-clause-result_value
-returns-else-put_words-clause-result_value c =
-    let offered : Outcome c.args.f c.args.room.now c.put_words.new.room c.put_words.result = let f = c.args.f in
-    let made =
-    frame_words_lem f c.pair.ensures c.pair-2.ensures c.pair-3.ensures c.pair-4.ensures
-    c.modes_word.ensures c.macros_word.ensures
-    in
-    outcome f c.args.room.now c.put_words.new.room _ c.put_words.result (omega (arith, c.well_formed))
-    (holds c.obeys.ensures (ap not c.if-not-obeys.false)) made c.put_words.ensures.value c.put_words.ensures.room_after in
-    (offered.nothing c.if-put_words.false).0
+pub returns-clause-result_value : goal.returns-clause-result_value
+returns-clause-result_value c =
+    let put = rw (c.as_flattened.ensures.value, c.bytes_of.ensures) at c.in_ok-put_bytes.ensures.value in
+    wrote_all c.args.f c.args.room.now (sym c.obeys.ensures ∙ c.if-not-obeys.false) (sym put)
 
-pub returns-else-put_words-clause-room_after : goal.returns-else-put_words-clause-room_after
-returns-else-put_words-clause-room_after c =
-    let offered : Outcome c.args.f c.args.room.now c.put_words.new.room c.put_words.result = let f = c.args.f in
-    let made =
-    frame_words_lem f c.pair.ensures c.pair-2.ensures c.pair-3.ensures c.pair-4.ensures
-    c.modes_word.ensures c.macros_word.ensures
-    in
-    outcome f c.args.room.now c.put_words.new.room _ c.put_words.result (omega (arith, c.well_formed))
-    (holds c.obeys.ensures (ap not c.if-not-obeys.false)) made c.put_words.ensures.value c.put_words.ensures.room_after in
-    (offered.nothing c.if-put_words.false).1
+pub returns-clause-room_after : goal.returns-clause-room_after
+returns-clause-room_after c =
+    let put = rw (c.as_flattened.ensures.value, c.bytes_of.ensures) at c.in_ok-put_bytes.ensures.room_after in
+    put ∙ room_left c.args.f c.args.room.now (sym c.obeys.ensures ∙ c.if-not-obeys.false)
