@@ -22,14 +22,12 @@ use Rattle.wire.specs.Write.{command_bytes, list_bytes, room_after}
 use Rattle.wire.proofs.Lengths.{length_command, row_words_most}
 use Rattle.wire.proofs.Writes.{allowed}
 use Rattle.card.specs.declared.answers.Fault.{Fault}
-use Rattle.card.specs.declared.answers.Moved.{Moved}
-use Rattle.card.specs.declared.number.Number.{Number}
-use Rattle.card.specs.declared.command.Stored.{Stored}
-use Rattle.card.specs.declared.restoring.Gathered.{Gathered}
+use Rattle.card.specs.declared.answers.Refused.{Refused}
+use Rattle.std.specs.Prelude.{Result, Ok, Err}
 use Rattle.card.specs.Command.{command_at}
 use Rattle.card.specs.List.{Said, bad, next_said, said_from, count_at, head_then, stored_says}
-use Rattle.card.specs.Answers.{told_fault, answer, raw_by, from_card}
-use Rattle.card.specs.Steps.{no_room, got_number, got_command, end_after, buffer_after, Kept, All, AsSaid}
+use Rattle.card.specs.Answers.{told_fault, Moved, answer, raw_by, from_card}
+use Rattle.card.specs.Steps.{of_none, no_room, got_of, end_after, buffer_after, Kept, All, AsSaid}
 use Rattle.card.proofs.Stores.{part_sets}
 use Rattle.card.proofs.Commands.{TakenCommand, taken_command}
 use Rattle.card.proofs.Packing.{behind, behind_more, behind-said, behind-bad, Answers}
@@ -91,13 +89,16 @@ kept_more cs c pos buffer room kept = go (ltb 4096 pos) refl
               (front_more buffer pos (command_bytes c) (omega arith) ∙ ap (λ l. l ++ command_bytes c) (kept.front fits) ∙ sym (raw_more cs c));
         }
 
--- The turns of `gather`: the commands that were read stand in the buffer.
+-- The turns of `gather`: the commands that were read stand in the buffer. Each turn passes a byte at least, so that no more turns are made than there are
+-- bytes, however many commands are asked for.
 pub record Gathering (s : List ℕ) (count start : ℕ) (buffer : List ℕ) (at pos i : ℕ) : Type 0 where
   pub done : List Command
   pub whole : said_from count 1 s start ≡ behind done (said_from (count - i) (i + 1) s at)
   pub few : i ≤ count
   pub room : 4096 ≡ length buffer
   pub small : pos ≤ 4112
+  pub passes : start + i ≤ at
+  pub within : 0 < i → at ≤ length s
   pub kept : Kept done pos buffer
 
 pub none_gathered : (s : List ℕ) (count start : ℕ) (buffer : List ℕ) → 4096 ≡ length buffer → Gathering s count start buffer start 0 0
@@ -110,6 +111,8 @@ none_gathered s count start buffer room =
       few = omega arith;
       room = room;
       small = omega arith;
+      passes = omega arith;
+      within = λ h. absurd (omega arith);
       kept = record { exact = λ h. refl; over = λ h. absurd (omega arith); front = λ h. refl };
     }
 
@@ -117,33 +120,35 @@ module _ (s : List ℕ) (count start : ℕ) (buffer : List ℕ) (at pos i : ℕ)
   abbrev later : ℕ → Said
   later end = said_from (count - (i + 1)) (i + 1 + 1) s end
 
-  module _ (more : i < count) (r : Stored) (is_r : got_command r ≡ command_at s at) where
-    step : said_from (count - i) (i + 1) s at ≡ next_said (got_command r) (i + 1) later
+  module _ (more : i < count) (r : Result (Command × ℕ) Fault) (is_r : got_of r ≡ command_at s at) where
+    step : said_from (count - i) (i + 1) s at ≡ next_said (got_of r) (i + 1) later
     unfolding said_from
     step =
         let left : count - i ≡ suc (count - (i + 1)) = omega arith in
         rw (left, is_r, ← add-one (i + 1))
 
-    pub gathered_bad : (fault : Fault) → r ≡ Stored.Bad fault → said_from count 1 s start ≡ bad (i + 1) (told_fault fault)
+    pub gathered_bad : (fault : Fault) → r ≡ Err fault → said_from count 1 s start ≡ bad (i + 1) (told_fault fault)
     gathered_bad fault e =
         so_far.whole
-        ∙ ap (behind so_far.done) (step ∙ ap (λ q. next_said (got_command q) (i + 1) later) e)
+        ∙ ap (behind so_far.done) (step ∙ ap (λ q. next_said (got_of q) (i + 1) later) e)
         ∙ behind-bad so_far.done (i + 1) (told_fault fault)
 
-    module _ (bytes : Bytes s) (c : Command) (end : ℕ) (e : r ≡ Stored.Taken c end) where
+    module _ (bytes : Bytes s) (c : Command) (end : ℕ) (e : r ≡ Ok (c, end)) where
       pub gathered_command : TakenCommand s at c end
-      gathered_command = taken_command s bytes at c end (sym is_r ∙ ap got_command e)
+      gathered_command = taken_command s bytes at c end (sym is_r ∙ ap got_of e)
 
       pub one_gathered : (pos' : ℕ) (buffer' : List ℕ) → pos' ≡ end_after c pos → buffer' ≡ buffer_after c pos buffer
           → Gathering s count start buffer' end pos' (i + 1)
       one_gathered pos' buffer' is_pos is_buffer = rw (is_pos, is_buffer) (record {
         done = so_far.done ++ (c ∷ []);
         whole = so_far.whole
-            ∙ ap (behind so_far.done) (step ∙ ap (λ q. next_said (got_command q) (i + 1) later) e)
+            ∙ ap (behind so_far.done) (step ∙ ap (λ q. next_said (got_of q) (i + 1) later) e)
             ∙ sym (behind_more so_far.done c (later end));
         few = omega arith;
         room = so_far.room ∙ sym (length_after (leb (pos + length (command_bytes c)) (length buffer)));
         small = end_small (ltb 4096 pos) refl;
+        passes = omega (arith, gathered_command.moves, so_far.passes);
+        within = λ h. gathered_command.within;
         kept = kept_more so_far.done c pos buffer so_far.room so_far.kept;
       })
         where
@@ -163,15 +168,15 @@ module _ (s : List ℕ) (count start : ℕ) (buffer : List ℕ) (at pos i : ℕ)
 
 -- What is answered behind the last command.
 module _ (size : ℕ) (x : Said) (room : List ℕ) where
-  pub end_bad : (number : ℕ) (fault : Fault) → x ≡ bad number (told_fault fault) → Answers (Moved.Refused number fault) room (raw_by size x room)
-  end_bad number fault e = rw e (refl, refl)
+  pub end_bad : (why : Refused) → x ≡ bad why.number (told_fault why.fault) → Answers (Err why) room (raw_by size x room)
+  end_bad why e = rw e (refl, refl)
 
   module _ (pos end : ℕ) (buffer : List ℕ) (all : All x pos end buffer) where
-    pub end_over : end ≢ size → Answers (Moved.Refused 0 Fault.LeftOver) room (raw_by size x room)
+    pub end_over : end ≢ size → Answers (Err (of_none Fault.LeftOver)) room (raw_by size x room)
     end_over h = rw (all.is, ne_eqb end size h) (refl, refl)
 
     module _ (whole : end ≡ size) where
-      pub end_long : 4096 < pos → Answers (Moved.Refused 0 Fault.TooLong) room (raw_by size x room)
+      pub end_long : 4096 < pos → Answers (Err (of_none Fault.TooLong)) room (raw_by size x room)
       end_long h = rw (all.is, eq-eqb end size whole, lt-ltb 4096 (length (list_bytes all.cs)) (all.kept.over h)) (refl, refl)
 
       module _ (short : pos ≤ 4096) (fits : Bool) (is_fits : fits ≡ has_room (take pos buffer) room)
@@ -191,31 +196,31 @@ module _ (size : ℕ) (x : Said) (room : List ℕ) where
         fine : ltb 4096 (length raw) ≡ false
         fine = le-ltb 4096 (length raw) (omega (arith, size_is))
 
-        pub end_full : not fits ≡ true → (moved : Moved) → moved ≡ no_room → Answers moved room' (raw_by size x room)
-        end_full full moved is =
-            let none : has_room raw room ≡ false = sym room_is ∙ not-true fits full in
-            rw (is, all.is, eq-eqb end size whole, fine, none) (refl, now ∙ rw none)
+        pub end_full : fits ≡ false → Answers (Err no_room) room' (raw_by size x room)
+        end_full full =
+            let none : has_room raw room ≡ false = sym room_is ∙ full in
+            rw (all.is, eq-eqb end size whole, fine, none) (refl, now ∙ rw none)
 
-        pub end_done : not fits ≡ false → Answers (Moved.Done pos) room' (raw_by size x room)
+        pub end_done : fits ≡ true → Answers (Ok pos) room' (raw_by size x room)
         end_done enough =
-            let some : has_room raw room ≡ true = sym room_is ∙ not-false fits enough in
+            let some : has_room raw room ≡ true = sym room_is ∙ enough in
             rw (all.is, eq-eqb end size whole, fine, some) (ap (λ k. answer (plain 0) 0 k) size_is, now ∙ rw some)
 
 -- What was gathered, by the code's answer.
-pub as_said : (g h : Gathered) (x : Said) (buffer : List ℕ) → g ≡ h → AsSaid g x buffer → AsSaid h x buffer
+pub as_said : (g h : Result (ℕ × ℕ) Refused) (x : Said) (buffer : List ℕ) → g ≡ h → AsSaid g x buffer → AsSaid h x buffer
 as_said g h x buffer e a = subst (λ k. AsSaid k x buffer) e a
 
 -- The first two numbers, and what follows from them.
-module _ (s room : List ℕ) (n : Number) (is_n : got_number n ≡ count_at s) where
-  head_is : (k : Number) → n ≡ k → head_then (got_number k) (λ count at. said_from count 1 s at) ≡ stored_says s
+module _ (s room : List ℕ) (n : Result (ℕ × ℕ) Fault) (is_n : got_of n ≡ count_at s) where
+  head_is : (k : Result (ℕ × ℕ) Fault) → n ≡ k → head_then (got_of k) (λ count at. said_from count 1 s at) ≡ stored_says s
   unfolding stored_says
-  head_is k e = ap (λ m. head_then m (λ count at. said_from count 1 s at)) (ap got_number (sym e) ∙ is_n)
+  head_is k e = ap (λ m. head_then m (λ count at. said_from count 1 s at)) (ap got_of (sym e) ∙ is_n)
 
-  pub card_bad : (fault : Fault) → n ≡ Number.Bad fault → Answers (Moved.Refused 0 fault) room (from_card s room)
+  pub card_bad : (fault : Fault) → n ≡ Err fault → Answers (Err (of_none fault)) room (from_card s room)
   unfolding from_card
-  card_bad fault e = rw (← head_is (Number.Bad fault) e) (refl, refl)
+  card_bad fault e = rw (← head_is (Err fault) e) (refl, refl)
 
-  pub card_said : (count at : ℕ) → n ≡ Number.Taken count at → (moved : Moved) (room' : List ℕ)
+  pub card_said : (count at : ℕ) → n ≡ Ok (count, at) → (moved : Moved) (room' : List ℕ)
       → Answers moved room' (raw_by (length s) (said_from count 1 s at) room) → Answers moved room' (from_card s room)
   unfolding from_card
-  card_said count at e moved room' answered = rw (← head_is (Number.Taken count at) e) answered
+  card_said count at e moved room' answered = rw (← head_is (Ok (count, at)) e) answered

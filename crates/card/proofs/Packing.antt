@@ -27,14 +27,13 @@ use Rattle.walk.specs.Walk.{rests}
 use Rattle.walk.proofs.Spans.{span_within, span_some}
 use Rattle.walk.proofs.Turns.{Turn, turn}
 use Rattle.card.specs.declared.answers.Fault.{Fault}
-use Rattle.card.specs.declared.answers.Moved.{Moved}
-use Rattle.card.specs.declared.storing.Packed.{Packed}
+use Rattle.card.specs.declared.answers.Refused.{Refused}
 use Rattle.card.specs.Number.{number_bytes}
 use Rattle.card.specs.Command.{arguments_in, numbers_bytes, stored_command}
 use Rattle.card.specs.List.{stored_commands, stored_bytes, Said, said, bad, onto, raw_next, raw_from, raw_says}
-use Rattle.card.specs.Answers.{Result, stored_by, to_card}
+use Rattle.card.specs.Answers.{Result, Moved, told_fault, stored_by, to_card}
 use Rattle.card.specs.Answers as answers
-use Rattle.card.specs.Steps.{no_room, Packs, AsPacked}
+use Rattle.card.specs.Steps.{of_none, no_room, Packs, AsPacked}
 use Rattle.card.proofs.Commands.{drop_bytes}
 use Rattle.card.proofs.Lists.{RawTaken, raw_taken}
 use Rattle.card.proofs.Bounds.{command_short}
@@ -201,14 +200,14 @@ module _ (s buffer left : List ℕ) (pos count : ℕ) (so_far : Packing s buffer
       }
 
 -- What was packed, by the code's answer.
-pub as_packed : (g h : Packed) (x : Said) (buffer : List ℕ) → g ≡ h → AsPacked g x buffer → AsPacked h x buffer
+pub as_packed : (g h : Wired (ℕ × ℕ) Refused) (x : Said) (buffer : List ℕ) → g ≡ h → AsPacked g x buffer → AsPacked h x buffer
 as_packed g h x buffer e a = subst (λ k. AsPacked k x buffer) e a
 
 -- The answers of `to_card`.
 abbrev pub Answers : Moved → List ℕ → Result → Type 0
 Answers moved room result = (answers.answer_of moved ≡ result.answer) × (room ≡ result.room)
 
-pub list_too_long : (s room : List ℕ) → 4096 < length s → Answers (Moved.Refused 0 Fault.TooLong) room (to_card s room)
+pub list_too_long : (s room : List ℕ) → 4096 < length s → Answers (Err (of_none Fault.TooLong)) room (to_card s room)
 unfolding to_card
 list_too_long s room h = rw (lt-ltb 4096 (length s) h) (refl, refl)
 
@@ -217,8 +216,8 @@ module _ (s room : List ℕ) (short : length s ≤ 4096) where
   unfolding to_card
   by_said x e = rw (le-ltb 4096 (length s) short, ← e)
 
-  pub list_bad : (number : ℕ) (f : Refusal) → raw_says s ≡ bad number (told_of f) → Answers (Moved.Refused number (Fault.Wire f)) room (to_card s room)
-  list_bad number f e = rw (← by_said (bad number (told_of f)) e) (refl, refl)
+  pub list_bad : (why : Refused) → raw_says s ≡ bad why.number (told_fault why.fault) → Answers (Err why) room (to_card s room)
+  list_bad why e = rw (← by_said (bad why.number (told_fault why.fault)) e) (refl, refl)
 
   module _ (count pos : ℕ) (buffer : List ℕ) (packs : Packs (raw_says s) count pos buffer)
       (one two : ℕ) (is_one : one ≡ length (number_bytes 1)) (is_two : two ≡ length (number_bytes count)) where
@@ -245,13 +244,13 @@ module _ (s room : List ℕ) (short : length s ≤ 4096) where
     pub list_size : length (number_bytes 1 ++ (number_bytes count ++ take pos buffer)) ≡ one + two + pos
     list_size = ap length bytes_are ∙ sym size_is
 
-    pub list_no_room : length room < one + two + pos → (moved : Moved) → moved ≡ no_room → Answers moved room (to_card s room)
-    list_no_room h moved is =
+    pub list_no_room : length room < one + two + pos → Answers (Err no_room) room (to_card s room)
+    list_no_room h =
         let full = lt-leb (length (stored_bytes cs)) (length room) (omega (arith, size_is)) in
-        rw (is, ← by_said (said cs 0) packs.is, full) (refl, refl)
+        rw (← by_said (said cs 0) packs.is, full) (refl, refl)
 
     pub list_stored : one + two + pos ≤ length room → (room' : List ℕ) → room' ≡ sets room 0 (number_bytes 1 ++ (number_bytes count ++ take pos buffer))
-        → Answers (Moved.Done (one + two + pos)) room' (to_card s room)
+        → Answers (Ok (one + two + pos)) room' (to_card s room)
     list_stored h room' put =
         let fits : length (stored_bytes cs) ≤ length room = omega (arith, size_is) in
         let now : room' ≡ stored_bytes cs ++ drop (length (stored_bytes cs)) room =

@@ -8,8 +8,8 @@ use Rattle.wire.specs.declared.judging.Told.{Told}
 use Rattle.wire.proofs.Answers.{refusal_code}
 use Rattle.wire.proofs.Unique.{refusal_of}
 use Rattle.card.specs.declared.answers.Fault.{Fault}
-use Rattle.card.specs.declared.answers.Moved.{Moved}
-use Rattle.card.specs.Answers.{told_fault, Answer, answer_of}
+use Rattle.std.specs.Prelude.{Ok, Err}
+use Rattle.card.specs.Answers.{told_fault, Moved, Answer, answer_of}
 
 -- The fault of which this is told.
 abbrev fault_of : Told → Fault
@@ -51,11 +51,11 @@ fault_code Fault.LeftOver = refl
 fault_code Fault.BadFlag = refl
 
 abbrev moved_of : Answer → Moved
-moved_of a = cond (eqb a.told.code 0) (Moved.Done a.bytes) (Moved.Refused a.number (fault_of a.told))
+moved_of a = cond (eqb a.told.code 0) (Ok a.bytes) (Err (record { number = a.number; fault = fault_of a.told }))
 
 moved_back : (m : Moved) → moved_of (answer_of m) ≡ m
-moved_back (Moved.Done bytes) = refl
-moved_back (Moved.Refused number fault) = rw (fault_code fault, fault_back fault)
+moved_back (Ok bytes) = refl
+moved_back (Err why) = rw (fault_code why.fault, fault_back why.fault)
 
 -- No two results say the same: `to_card` has one result, and `from_card` has.
 pub one_moved : (x y : Moved) → answer_of x ≡ answer_of y → x ≡ y

@@ -8,7 +8,8 @@ use Rattle.wire.specs.declared.judging.Told.{Told}
 use Rattle.wire.specs.Judge.{plain, told_of}
 use Rattle.wire.specs.Write.{list_bytes}
 use Rattle.card.specs.declared.answers.Fault.{Fault}
-use Rattle.card.specs.declared.answers.Moved.{Moved}
+use Rattle.card.specs.declared.answers.Refused.{Refused}
+use Rattle.std.specs.Prelude.{Result as Outcome, Ok, Err}
 use Rattle.card.specs.List.{stored_bytes, Said, said, bad, stored_says, raw_says}
 
 -- What is told of each fault.
@@ -21,6 +22,10 @@ told_fault Fault.NotOne = plain 36
 told_fault Fault.LeftOver = plain 37
 told_fault Fault.BadFlag = plain 38
 
+-- What is told of a fault and a number.
+abbrev pub told_refused : Refused → Told
+told_refused refused = told_fault refused.fault
+
 -- What is answered: what is told, the number of the command at which it was found (0 where it belongs to none), and how many bytes were written.
 pub record Answer : Type 0 where
   pub told : Told
@@ -30,9 +35,13 @@ pub record Answer : Type 0 where
 abbrev pub answer : Told → ℕ → ℕ → Answer
 answer told number bytes = record { told = told; number = number; bytes = bytes }
 
+-- Moved: how many bytes; or why not, and the number of the command at which that was found.
+abbrev pub Moved : Type 0
+Moved = Outcome ℕ Refused
+
 abbrev pub answer_of : Moved → Answer
-answer_of (Moved.Done bytes) = answer (plain 0) 0 bytes
-answer_of (Moved.Refused number fault) = answer (told_fault fault) number 0
+answer_of (Ok bytes) = answer (plain 0) 0 bytes
+answer_of (Err refused) = answer (told_fault refused.fault) refused.number 0
 
 -- An answer, and the room afterwards.
 pub record Result : Type 0 where

@@ -1,5 +1,5 @@
 -- Steps of the code. No public promise needs them.
-use Rattle.std.specs.Prelude.{ℕ, ◌+◌, ◌≤◌, ◌<◌, ◌≡◌, List, [], ◌∷◌, true, cond, ◌&&◌, ◌||◌, length, take, drop, leb, ltb, eqb}
+use Rattle.std.specs.Prelude.{ℕ, ◌+◌, ◌≤◌, ◌<◌, ◌≡◌, List, [], ◌∷◌, true, cond, ◌&&◌, ◌||◌, length, take, drop, leb, ltb, eqb, Result, Ok, Err}
 use Rattle.std.proofs.lemmas.List.Edits.{sets}
 use Rattle.words.specs.Codes.{◌when◌}
 use Rattle.wire.specs.declared.kinds.Command.{Command}
@@ -7,28 +7,29 @@ use Rattle.wire.specs.declared.kinds.Parts.{Parts}
 use Rattle.wire.specs.declared.judging.Refusal.{Refusal}
 use Rattle.wire.specs.declared.table.Form.{Form}
 use Rattle.wire.specs.Kind.{parts_with}
-use Rattle.wire.specs.Judge.{told_of}
 use Rattle.wire.specs.Write.{command_bytes, list_bytes}
 use Rattle.card.specs.declared.answers.Fault.{Fault}
-use Rattle.card.specs.declared.answers.Moved.{Moved}
-use Rattle.card.specs.declared.number.Number.{Number}
-use Rattle.card.specs.declared.command.Arguments.{Arguments}
-use Rattle.card.specs.declared.command.Stored.{Stored}
-use Rattle.card.specs.declared.storing.Packed.{Packed}
-use Rattle.card.specs.declared.restoring.Gathered.{Gathered}
+use Rattle.card.specs.declared.answers.Refused.{Refused}
 use Rattle.card.specs.Reading.{Got, got, refused, passing}
 use Rattle.card.specs.Number.{endless}
 use Rattle.card.specs.List.{stored_commands, Said, said, bad}
 use Rattle.card.specs.Answers.{told_fault}
 
--- `no_room`: too little room, which belongs to no command.
-abbrev pub no_room : Moved
-no_room = Moved.Refused 0 (Fault.Wire Refusal.NoRoom)
+-- A fault that belongs to no command, as too little room does.
+abbrev pub of_none : Fault → Refused
+of_none fault = record { number = 0; fault = fault }
 
--- What the readers of a number, of a form's arguments and of a command answer.
-abbrev pub got_number : Number → Got ℕ
-got_number (Number.Taken value end) = got value end
-got_number (Number.Bad fault) = refused (told_fault fault)
+abbrev pub no_room : Refused
+no_room = of_none (Fault.Wire Refusal.NoRoom)
+
+-- What the readers of a number and of a command answer, and that of a form's arguments.
+abbrev pub got_of : {A : Type 0} → Result (A × ℕ) Fault → Got A
+got_of (Ok (value, end)) = got value end
+got_of (Err fault) = refused (told_fault fault)
+
+abbrev pub got_arguments : Form → Result (ℕ × ℕ × ℕ) Fault → Got Parts
+got_arguments form (Ok (first, second, end)) = got (parts_with form first second) end
+got_arguments form (Err fault) = refused (told_fault fault)
 
 -- `longer`: a number that goes on at a place and has too many groups already.
 abbrev pub longer_as : List ℕ → ℕ → Got ℕ
@@ -37,14 +38,6 @@ longer_as s at = passing (34 when endless (drop at s) ∷ 35 when true ∷ []) (
 -- `closed`: a number that ends before a place, by its value, its last group and how many stand before that.
 abbrev pub closed_as : ℕ → ℕ → ℕ → ℕ → Got ℕ
 closed_as value last before end = passing (35 when (eqb last 0 && ltb 0 before || ltb 0xffffffff value) ∷ []) (got value end)
-
-abbrev pub got_arguments : Form → Arguments → Got Parts
-got_arguments form (Arguments.Taken first second end) = got (parts_with form first second) end
-got_arguments form (Arguments.Bad fault) = refused (told_fault fault)
-
-abbrev pub got_command : Stored → Got Command
-got_command (Stored.Taken c end) = got c end
-got_command (Stored.Bad fault) = refused (told_fault fault)
 
 -- `put_behind`: a command behind the first so many bytes of a buffer, where the list is not too long yet, and how many bytes there are then.
 abbrev pub end_after : Command → ℕ → ℕ
@@ -64,9 +57,9 @@ pub record All (x : Said) (pos end : ℕ) (buffer : List ℕ) : Type 0 where
   pub is : x ≡ said cs end
   pub kept : Kept cs pos buffer
 
-abbrev pub AsSaid : Gathered → Said → List ℕ → Type 0
-AsSaid (Gathered.All pos end) x buffer = All x pos end buffer
-AsSaid (Gathered.Bad number fault) x buffer = x ≡ bad number (told_fault fault)
+abbrev pub AsSaid : Result (ℕ × ℕ) Refused → Said → List ℕ → Type 0
+AsSaid (Ok (pos, end)) x buffer = All x pos end buffer
+AsSaid (Err why) x buffer = x ≡ bad why.number (told_fault why.fault)
 
 -- `pack`: so many commands in stored form stand at the front of its buffer.
 pub record Packs (x : Said) (count pos : ℕ) (buffer : List ℕ) : Type 0 where
@@ -77,6 +70,6 @@ pub record Packs (x : Said) (count pos : ℕ) (buffer : List ℕ) : Type 0 where
   pub short : pos ≤ 4096
   pub front : take pos buffer ≡ stored_commands cs
 
-abbrev pub AsPacked : Packed → Said → List ℕ → Type 0
-AsPacked (Packed.All count pos) x buffer = Packs x count pos buffer
-AsPacked (Packed.Bad number refusal) x buffer = x ≡ bad number (told_of refusal)
+abbrev pub AsPacked : Result (ℕ × ℕ) Refused → Said → List ℕ → Type 0
+AsPacked (Ok (count, pos)) x buffer = Packs x count pos buffer
+AsPacked (Err why) x buffer = x ≡ bad why.number (told_fault why.fault)

@@ -1,4 +1,4 @@
-// Lists on a memory card: the stored form of a list, without pads and sums, and the raw list back from it.
+//! Lists on a memory card: the stored form of a list, without pads and sums, and the raw list back from it. Rules: "Lists on a memory card".
 #![tactic(auto)]
 
 mod answers;
@@ -7,6 +7,6 @@ mod number;
 mod restoring;
 mod storing;
 
-pub use answers::{Fault, Moved, bytes_of, number_of, told_of};
+pub use answers::{Fault, Refused, number_of};
 pub use restoring::from_card;
 pub use storing::to_card;

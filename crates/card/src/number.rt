@@ -1,16 +1,10 @@
-// One number read: groups of seven bits, lowest first, the high bit set on all but the last, never a group more than needed (34, 35).
+//! One number read: groups of seven bits, lowest first, the high bit set on all but the last, never a group more than needed. Rules: "Lists on a memory
+//! card".
 ghost use Rattle.std.specs.Prelude.{◌≡◌};
 ghost use Rattle.card.specs.Number.{number_at};
-ghost use Rattle.card.specs.Steps.{got_number, longer_as, closed_as};
+ghost use Rattle.card.specs.Steps.{got_of, longer_as, closed_as};
 
 use super::answers::Fault;
-
-// A number and the place behind it, or what is wrong with it.
-#[derive(Clone, Copy)]
-pub enum Number {
-    Taken(u32, usize),
-    Bad(Fault),
-}
 
 // The high bit of a byte, which says that another group follows; and how much more each group counts than the one before it.
 const MORE: u64 = 128;
@@ -28,42 +22,34 @@ fn wide(byte: u8) -> u64
 }
 
 // A number of more groups than it may have, whose next one stands at a place: 35, or 34 where it does not end.
-fn longer(s: &[u8], at: usize) -> Number
-    ensures { got_number result ≡ longer_as s.now at }
+fn longer(s: &[u8], at: usize) -> Result<(u32, usize), Fault>
+    ensures { got_of result ≡ longer_as s.now at }
 {
-    let mut i = at;
-    while i < s.len() {
+    for i in at..s.len() {
         if wide(s[i]) < MORE {
-            return Number::Bad(Fault::Overlong);
+            return Err(Fault::Overlong);
         }
-        i += 1;
     }
-    Number::Bad(Fault::Ended)
+    Err(Fault::Ended)
 }
 
 // A number that ends before a place: what its groups say, the last of them, and how many stand before that.
-fn closed(value: u64, last: u64, before: usize, end: usize) -> Number
-    ensures { got_number result ≡ closed_as value last before end }
+fn closed(value: u64, last: u64, before: usize, end: usize) -> Result<(u32, usize), Fault>
+    ensures { got_of result ≡ closed_as value last before end }
 {
-    if last == 0 {
-        if 0 < before {
-            return Number::Bad(Fault::Overlong);
-        }
+    if (last == 0 && 0 < before) || LARGEST < value {
+        return Err(Fault::Overlong);
     }
-    if LARGEST < value {
-        return Number::Bad(Fault::Overlong);
-    }
-    Number::Taken(value as u32, end)
+    Ok((value as u32, end))
 }
 
-// The number that begins at a place. Each of its bytes is looked at once.
-pub fn number_at(s: &[u8], at: usize) -> Number
-    ensures { got_number result ≡ number_at s.now at }
+// The number that begins at a place, and the place behind it. Each of its bytes is looked at once.
+pub fn number_at(s: &[u8], at: usize) -> Result<(u32, usize), Fault>
+    ensures { got_of result ≡ number_at s.now at }
 {
     let mut value: u64 = 0;
     let mut scale: u64 = 1;
-    let mut i = at;
-    while i < s.len() {
+    for i in at..s.len() {
         let group = wide(s[i]);
         if group < MORE {
             return closed(value + group * scale, group, i - at, i + 1);
@@ -73,7 +59,6 @@ pub fn number_at(s: &[u8], at: usize) -> Number
         }
         value += (group - MORE) * scale;
         scale *= MORE;
-        i += 1;
     }
-    Number::Bad(Fault::Ended)
+    Err(Fault::Ended)
 }

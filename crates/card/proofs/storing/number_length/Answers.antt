@@ -31,9 +31,9 @@ returns-then-value-lt-FOUR_GROUPS c =
           (omega arith),
     )
 
-pub returns : goal.returns
+pub returns-else-value-lt-FOUR_GROUPS : goal.returns-else-value-lt-FOUR_GROUPS
 unfolding groups_in number_bytes
-returns c =
+returns-else-value-lt-FOUR_GROUPS c =
     let v = c.args.value in
     simp (
       le-ltb v 128 (omega arith),

@@ -29,14 +29,13 @@ put_number-arguments_at-requires c =
     let parts = c.parts_of-parts in
     let row = c.row_of-row in
     let opcode = c.put_number-flag_at in
-    let bit = c.bit_of in
     let rest = numbers_bytes (arguments_in (arguments_of row.result.layout) parts.result.first parts.result.second) in
-    let is = stored_is args.command parts.result row.result bit.result (arguments_of row.result.layout) parts.ensures row.ensures
-    bit.ensures refl in
+    let is = stored_is args.command parts.result row.result (flag_bit args.command.flag) (arguments_of row.result.layout) parts.ensures row.ensures
+    refl refl in
     let all = subst (λ l. args.at + length l ≤ length args.room.now) is
     c.requires in
-    fits_front opcode.new.room opcode.result (number_bytes bit.result) rest
-    (fits_rest args.room.now opcode.new.room args.at opcode.result (number_bytes row.result.opcode) (number_bytes bit.result ++ rest)
+    fits_front opcode.new.room opcode.result (number_bytes (flag_bit args.command.flag)) rest
+    (fits_rest args.room.now opcode.new.room args.at opcode.result (number_bytes row.result.opcode) (number_bytes (flag_bit args.command.flag) ++ rest)
     (opcode.ensures.value, opcode.ensures.room_after) all)
 
 pub put_arguments-requires : goal.put_arguments-requires
@@ -45,16 +44,15 @@ put_arguments-requires c =
     let parts = c.parts_of-parts in
     let row = c.row_of-row in
     let opcode = c.put_number-flag_at in
-    let bit = c.bit_of in
     let flag = c.put_number-arguments_at in
-    let many = c.arguments_of in
+    let many = c.arguments_of-many in
     let rest = numbers_bytes (arguments_in many.result parts.result.first parts.result.second) in
-    let is = stored_is args.command parts.result row.result bit.result many.result parts.ensures row.ensures bit.ensures
+    let is = stored_is args.command parts.result row.result (flag_bit args.command.flag) many.result parts.ensures row.ensures refl
     many.ensures in
     let all = subst (λ l. args.at + length l ≤ length args.room.now) is
     c.requires in
-    fits_rest opcode.new.room flag.new.room opcode.result flag.result (number_bytes bit.result) rest (flag.ensures.value, flag.ensures.room_after)
-    (fits_rest args.room.now opcode.new.room args.at opcode.result (number_bytes row.result.opcode) (number_bytes bit.result ++ rest)
+    fits_rest opcode.new.room flag.new.room opcode.result flag.result (number_bytes (flag_bit args.command.flag)) rest (flag.ensures.value, flag.ensures.room_after)
+    (fits_rest args.room.now opcode.new.room args.at opcode.result (number_bytes row.result.opcode) (number_bytes (flag_bit args.command.flag) ++ rest)
     (opcode.ensures.value, opcode.ensures.room_after) all)
 
 pub returns-clause-value : goal.returns-clause-value
@@ -63,18 +61,17 @@ returns-clause-value c =
     let parts = c.parts_of-parts in
     let row = c.row_of-row in
     let opcode = c.put_number-flag_at in
-    let bit = c.bit_of in
     let flag = c.put_number-arguments_at in
-    let many = c.arguments_of in
+    let many = c.arguments_of-many in
     let last = c.put_arguments in
     let rest = numbers_bytes (arguments_in many.result parts.result.first parts.result.second) in
-    let is = stored_is args.command parts.result row.result bit.result many.result parts.ensures row.ensures bit.ensures
+    let is = stored_is args.command parts.result row.result (flag_bit args.command.flag) many.result parts.ensures row.ensures refl
     many.ensures in
-    let behind = put_both opcode.new.room flag.new.room last.new.room opcode.result flag.result last.result (number_bytes bit.result) rest
+    let behind = put_both opcode.new.room flag.new.room last.new.room opcode.result flag.result last.result (number_bytes (flag_bit args.command.flag)) rest
     (flag.ensures.value, flag.ensures.room_after) (last.ensures.value, last.ensures.room_after) in
     (put_as _ _ _ _ _ _ is (put_both args.room.now opcode.new.room last.new.room args.at opcode.result last.result
     (number_bytes row.result.opcode)
-    (number_bytes bit.result ++ rest) (opcode.ensures.value, opcode.ensures.room_after) behind)).0
+    (number_bytes (flag_bit args.command.flag) ++ rest) (opcode.ensures.value, opcode.ensures.room_after) behind)).0
 
 pub returns-clause-room_after : goal.returns-clause-room_after
 returns-clause-room_after c =
@@ -82,15 +79,14 @@ returns-clause-room_after c =
     let parts = c.parts_of-parts in
     let row = c.row_of-row in
     let opcode = c.put_number-flag_at in
-    let bit = c.bit_of in
     let flag = c.put_number-arguments_at in
-    let many = c.arguments_of in
+    let many = c.arguments_of-many in
     let last = c.put_arguments in
     let rest = numbers_bytes (arguments_in many.result parts.result.first parts.result.second) in
-    let is = stored_is args.command parts.result row.result bit.result many.result parts.ensures row.ensures bit.ensures
+    let is = stored_is args.command parts.result row.result (flag_bit args.command.flag) many.result parts.ensures row.ensures refl
     many.ensures in
-    let behind = put_both opcode.new.room flag.new.room last.new.room opcode.result flag.result last.result (number_bytes bit.result) rest
+    let behind = put_both opcode.new.room flag.new.room last.new.room opcode.result flag.result last.result (number_bytes (flag_bit args.command.flag)) rest
     (flag.ensures.value, flag.ensures.room_after) (last.ensures.value, last.ensures.room_after) in
     (put_as _ _ _ _ _ _ is (put_both args.room.now opcode.new.room last.new.room args.at opcode.result last.result
     (number_bytes row.result.opcode)
-    (number_bytes bit.result ++ rest) (opcode.ensures.value, opcode.ensures.room_after) behind)).1
+    (number_bytes (flag_bit args.command.flag) ++ rest) (opcode.ensures.value, opcode.ensures.room_after) behind)).1
