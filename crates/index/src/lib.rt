@@ -1,58 +1,46 @@
-// An index beside a list: where each command's bytes begin. It is built anew, or extended from an earlier one when its list has grown (20, 54, 24); a
-// command is looked up through it without a walk.
+//! An index beside a list: where each command's bytes begin. It is built anew, or extended from an earlier one when its list has grown; a command is then
+//! looked up without a walk. Rules: "Jump to a command".
 #![tactic(auto)]
 
 ghost use Rattle.std.specs.Prelude.{◌+◌, ◌-◌, ◌≤◌, ◌≡◌, length};
+ghost use Rattle.std.proofs.Common.{arith};
 ghost use Rattle.std.proofs.lemmas.List.Edits.{sets};
 ghost use Rattle.walk.specs.Shown.{Placed};
+ghost use Rattle.index.specs.declared.Refusal.TheVariants.{TooLong, BadOffsets, NoRoom};
 ghost use Rattle.index.specs.Index.{last_of};
 ghost use Rattle.index.specs.Answers.{unfit, refusal_code, answer_of, built_as, room_after};
 ghost use Rattle.index.specs.Found.{place_by, found_of, found_at};
 ghost use Rattle.index.specs.Steps.{climbing, Gathered};
 
 use walk::Commands;
+use words::Code;
 
-// The most offsets of an index: a list that is taken has no more commands.
+/// The most offsets of an index: a list that is taken has no more commands.
 pub const MOST: usize = 512;
 
-// Why there is no index.
+/// Why there is no index.
 #[derive(Clone, Copy, Debug, PartialEq, Eq)]
 pub enum Refusal {
+    /// The list has more bytes than a list may have (20).
     TooLong,
+    /// The offsets that were handed in are such as no index of the list has (54).
     BadOffsets,
+    /// The room has fewer places than the index needs (24).
     NoRoom,
 }
 
-impl Refusal {
-    pub fn code(self) -> u8
-        ensures { result ≡ refusal_code self }
-    {
+impl Code for Refusal {
+    ghost code = { refusal_code };
+
+    ghost refuses = { elim [ TooLong ↦ Prim.omega arith | BadOffsets ↦ Prim.omega arith | NoRoom ↦ Prim.omega arith ] };
+
+    fn code(&self) -> u8 {
         match self {
             Refusal::TooLong => 20,
             Refusal::BadOffsets => 54,
             Refusal::NoRoom => 24,
         }
     }
-}
-
-// What came of it: an index of so many offsets, or why there is none.
-pub type Indexed = Result<usize, Refusal>;
-
-// The code of an answer.
-pub fn code_of(indexed: Indexed) -> u8
-    ensures { result ≡ (answer_of indexed).code }
-{
-    match indexed {
-        Ok(_) => 0,
-        Err(refusal) => refusal.code(),
-    }
-}
-
-// How many offsets there are; none on a refusal.
-pub fn count_of(indexed: Indexed) -> usize
-    ensures { result ≡ (answer_of indexed).count }
-{
-    indexed.unwrap_or(0)
 }
 
 // Do these offsets rise, each below this end?
@@ -62,10 +50,7 @@ fn climbs(old: &[u16], end: usize) -> bool
     let mut least: usize = 0;
     for &offset in old {
         let at = offset as usize;
-        if at < least {
-            return false;
-        }
-        if end <= at {
+        if at < least || end <= at {
             return false;
         }
         least = at + 1;
@@ -77,16 +62,10 @@ fn climbs(old: &[u16], end: usize) -> bool
 fn are_unfit(old: &[u16], end: usize) -> bool
     ensures { result ≡ unfit end old.now }
 {
-    if MOST < old.len() {
-        return true;
+    match old {
+        [] => false,
+        [first, ..] => MOST < old.len() || *first != 0 || !climbs(old, end),
     }
-    if old.len() == 0 {
-        return false;
-    }
-    if old[0] != 0 {
-        return true;
-    }
-    !climbs(old, end)
 }
 
 // Puts where the commands from a place on begin at the front of a buffer, and says how many they are.
@@ -123,14 +102,17 @@ fn kept_of(old: &[u16]) -> usize
 fn last_of(old: &[u16]) -> usize
     ensures { result ≡ last_of old.now }
 {
-    match old.last() {
-        Some(&offset) => offset as usize,
-        None => 0,
-    }
+    old.last().copied().unwrap_or(0) as usize
 }
 
-// The index of a list at the front of a room, from the offsets of an earlier one; none builds it anew.
-pub fn build(list: &[u8], old: &[u16], room: &mut [u16]) -> Indexed
+/// Puts the index of a list at the front of a room and says how many offsets it has; places behind them stay as they were. `old` has the offsets of an
+/// earlier index, built before the list grew at its end, which is extended; with none it is built anew.
+///
+/// # Errors
+///
+/// `TooLong` (20) where the list has more than `walk::LONGEST` bytes, then `BadOffsets` (54) where `old` has more than `MOST` offsets or such as no index of
+/// the list has, then `NoRoom` (24). The room is then as it was. Rules: "Jump to a command".
+pub fn build(list: &[u8], old: &[u16], room: &mut [u16]) -> Result<usize, Refusal>
     ensures result_value { answer_of result ≡ built_as list.now old.now room.old }
     ensures room_after { room.new ≡ room_after list.now old.now room.old }
 {
@@ -144,10 +126,7 @@ pub fn build(list: &[u8], old: &[u16], room: &mut [u16]) -> Indexed
     let mut buffer = [0u16; MOST];
     let found = gather(list, last_of(old), &mut buffer);
     let count = kept + found;
-    if MOST < count {
-        return Err(Refusal::NoRoom);
-    }
-    if room.len() < count {
+    if MOST < count || room.len() < count {
         return Err(Refusal::NoRoom);
     }
     put_offsets(room, 0, &old[..kept]);
@@ -159,10 +138,7 @@ pub fn build(list: &[u8], old: &[u16], room: &mut [u16]) -> Indexed
 fn place_of(list: &[u8], offsets: &[u16], number: u32) -> usize
     ensures { result ≡ place_by list.now offsets.now number }
 {
-    if walk::LONGEST < list.len() {
-        return list.len();
-    }
-    if number == 0 {
+    if walk::LONGEST < list.len() || number == 0 {
         return list.len();
     }
     match offsets.get(number as usize - 1) {
@@ -171,7 +147,7 @@ fn place_of(list: &[u8], offsets: &[u16], number: u32) -> usize
     }
 }
 
-// The bytes of the command of a number, from 1: a part of the list, empty where there is no such command.
+/// The bytes of the command of a number, from 1: a part of the list, empty where the offsets have no such command.
 pub fn look_up<'a, 'b>(list: &'a [u8], offsets: &'b [u16], number: u32) -> &'a [u8]
     ensures result_value { result.now ≡ found_of list.now offsets.now number }
     ensures placed { Placed list.entry result (found_at list.now offsets.now number) }

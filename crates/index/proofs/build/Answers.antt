@@ -4,6 +4,7 @@ use Rattle.index.proofs.Ends.{Walked, too_long, bad_offsets, too_many_found, too
 use native.Mathlib.Omega.{arith}
 use lib.ListN.{length}
 use Rattle.index.proofs.Offsets.{fit_last}
+use Rattle.index.proofs.build.Goals.{then-count-gt-MOST-via-then-count-gt-MOST, then-count-gt-MOST-via-else-count-gt-MOST+then-room-count}
 use Rattle.index.proofs.build.Goals as goal
 
 pub returns-then-list-gt-LONGEST-clause-result_value : goal.returns-then-list-gt-LONGEST-clause-result_value
@@ -38,7 +39,10 @@ returns-then-count-gt-MOST-clause-result_value c =
       counted = c.gather-found.ensures.count;
     } in
     let room = c.args.room.now in
-    (too_many_found _ _ room _ _ _ walked c.if-count-gt-MOST.true).0
+    elim c.then-count-gt-MOST.branch [
+      | then-count-gt-MOST-via-then-count-gt-MOST w ↦ (too_many_found _ _ room _ _ _ walked w.if-count-gt-MOST.true).0
+      | then-count-gt-MOST-via-else-count-gt-MOST+then-room-count w ↦ (too_few_places _ _ room _ _ _ walked w.if-count-gt-MOST.false w.if-room-count.true).0
+    ]
 
 pub returns-then-count-gt-MOST-clause-room_after : goal.returns-then-count-gt-MOST-clause-room_after
 returns-then-count-gt-MOST-clause-room_after c =
@@ -50,31 +54,10 @@ returns-then-count-gt-MOST-clause-room_after c =
       counted = c.gather-found.ensures.count;
     } in
     let room = c.args.room.now in
-    (too_many_found _ _ room _ _ _ walked c.if-count-gt-MOST.true).1
-
-pub returns-then-room-count-clause-result_value : goal.returns-then-room-count-clause-result_value
-returns-then-room-count-clause-result_value c =
-    let walked : Walked c.args.list.now c.args.old.now c.kept_of-kept.result c.last_of.result c.gather-found.result = record {
-      short = c.if-list-gt-LONGEST.false;
-      fit = sym c.are_unfit.ensures ∙ c.if-are_unfit.false;
-      stay = c.kept_of-kept.ensures;
-      last = c.last_of.ensures;
-      counted = c.gather-found.ensures.count;
-    } in
-    let room = c.args.room.now in
-    (too_few_places _ _ room _ _ _ walked c.if-count-gt-MOST.false c.if-room-count.true).0
-
-pub returns-then-room-count-clause-room_after : goal.returns-then-room-count-clause-room_after
-returns-then-room-count-clause-room_after c =
-    let walked : Walked c.args.list.now c.args.old.now c.kept_of-kept.result c.last_of.result c.gather-found.result = record {
-      short = c.if-list-gt-LONGEST.false;
-      fit = sym c.are_unfit.ensures ∙ c.if-are_unfit.false;
-      stay = c.kept_of-kept.ensures;
-      last = c.last_of.ensures;
-      counted = c.gather-found.ensures.count;
-    } in
-    let room = c.args.room.now in
-    (too_few_places _ _ room _ _ _ walked c.if-count-gt-MOST.false c.if-room-count.true).1
+    elim c.then-count-gt-MOST.branch [
+      | then-count-gt-MOST-via-then-count-gt-MOST w ↦ (too_many_found _ _ room _ _ _ walked w.if-count-gt-MOST.true).1
+      | then-count-gt-MOST-via-else-count-gt-MOST+then-room-count w ↦ (too_few_places _ _ room _ _ _ walked w.if-count-gt-MOST.false w.if-room-count.true).1
+    ]
 
 pub returns-clause-result_value : goal.returns-clause-result_value
 returns-clause-result_value c =
