@@ -1,4 +1,4 @@
-// One record of the report, in the front of a lent part; and what the last records of a report say.
+//! One record of the report, in the front of a lent part; and what the last records of a report say. Rules: "Two lists, one report".
 #![tactic(auto)]
 
 ghost use Rattle.std.specs.Prelude.{◌+◌, ◌/◌, ◌≤◌, ◌≡◌, length};
@@ -8,32 +8,40 @@ ghost use Rattle.report.specs.Latest.{no_latest, number_in, code_in, last_failed
 
 use words::NoRoom;
 
-// The bytes of a record.
+/// The bytes of a record.
 pub const RECORD: usize = 12;
 
-// Where its fields begin; the sender is the first.
+/// Where a record's code stands, behind the sender, which is its first byte.
 pub const CODE_AT: usize = 1;
 
+/// Where the parameter stands that an argument out of range belongs to.
 pub const PAR_AT: usize = 2;
 
+/// Where the command's number in its own list begins, 32 bits.
 pub const NUMBER_AT: usize = 4;
 
+/// Where the value begins that is out of range, 32 bits.
 pub const VALUE_AT: usize = 8;
 
-// The most records of a run, 512 for each of two lists of 4,096 bytes, and the room that they need.
+/// The most records of a run: 512 for each of two lists of 4,096 bytes.
 pub const RECORDS: usize = 1024;
 
+/// The bytes of room that so many records need.
 pub const ROOM: usize = RECORDS * RECORD;
 
-// The number of the last record, and number and code of the last whose code is not 0; 0 where there is none.
-#[derive(Clone, Copy)]
+/// The number of the last record, and number and code of the last whose code is not 0; 0 where there is none.
+#[derive(Clone, Copy, Debug, PartialEq, Eq, Default)]
 pub struct Latest {
     pub received: u32,
     pub failed: u32,
     pub code: u8,
 }
 
-// A record at the front of a room: the sender, the code, the parameter, a spare 0, the number, and the value.
+/// Writes a record at the front of a room, `RECORD` bytes: the sender, the code, the parameter, a spare 0, the number, and the value.
+///
+/// # Errors
+///
+/// `NoRoom` (24) where the room has too few bytes; it is then as it was.
 pub fn put_record(
     room: &mut [u8],
     sender: u8,
@@ -80,12 +88,13 @@ fn asked_of(report: &[u8], count: u32) -> u32
 {
     let whole = report.len() / RECORD;
     if whole < count as usize {
-        return whole as u32 + 1;
+        whole as u32 + 1
+    } else {
+        count
     }
-    count
 }
 
-// The last of so many records whose code is not 0, looked for from the last one back.
+// The last of so many records whose code is not 0, looked for from the last one back. A loop, since for `find` over the same numbers no proof was found.
 fn last_failed(report: &[u8], count: u32) -> u32
     ensures { result ≡ last_failed report.now count }
 {
@@ -97,7 +106,7 @@ fn last_failed(report: &[u8], count: u32) -> u32
     0
 }
 
-// What the last of so many records at the front of a report say.
+/// What the last of so many records at the front of a report say.
 pub fn latest_of(report: &[u8], count: u32) -> Latest
     ensures { result ≡ latest_of report.now count }
 {
@@ -110,14 +119,10 @@ pub fn latest_of(report: &[u8], count: u32) -> Latest
 }
 
 impl Latest {
-    // Before the first run.
+    /// Before the first run there is neither.
     pub fn none() -> Latest
         ensures { result ≡ no_latest }
     {
-        Latest {
-            received: 0,
-            failed: 0,
-            code: 0,
-        }
+        Latest::default()
     }
 }

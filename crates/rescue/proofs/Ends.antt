@@ -1,17 +1,16 @@
 -- The ends of a rescue: which answer, and what both rooms hold afterwards, by the tests that were passed on the way.
 use Prim.Native.Nat.{ℕ, ◌/◌, ◌≤◌, ◌<◌}
 use mathlib.Core.Path.{◌≡◌, refl, sym, ap, ◌∙◌}
-use mathlib.Core.List.{List}
+use mathlib.Core.List.{List, ◌++◌}
 use mathlib.Core.Bool.{true, false}
 use native.Mathlib.Omega.{arith}
-use lib.ListN.{length, take}
+use lib.ListN.{length, take, drop}
 use lib.Seq.{length-take-le}
 use lib.Dec.{eqb}
 use borrow.Author.Tests.{lt-ltb, le-ltb, lt-leb, le-leb}
-use Rattle.words.specs.BigEndian.{has_room, written}
-use Rattle.words.proofs.Laws.{with_room}
+use Rattle.words.specs.BigEndian.{has_room}
 use Rattle.std.specs.Prelude.{Result, Ok, Err}
-use Rattle.rescue.specs.declared.Kept.{Kept}
+use Rattle.rescue.specs.declared.Rescued.{Rescued}
 use Rattle.rescue.specs.declared.Refusal.{Refusal}
 use Rattle.rescue.specs.declared.Sums.{Sums}
 use Rattle.rescue.specs.Pieces.{kept_of, stretches_of}
@@ -20,7 +19,7 @@ use Rattle.rescue.specs.Steps.{Gathered}
 use Rattle.rescue.proofs.Turns.{length_table}
 
 -- What is promised of an answer and of both rooms.
-abbrev pub Said : List ℕ → List ℕ → List ℕ → Result Kept Refusal → List ℕ → List ℕ → Type 0
+abbrev pub Said : List ℕ → List ℕ → List ℕ → Result Rescued Refusal → List ℕ → List ℕ → Type 0
 Said s room table r room' table' = (answer_of r ≡ rescued_as s room table) × ((room' ≡ room_after s room table) × (table' ≡ table_after s room table))
 
 module _ (s room table : List ℕ) where
@@ -79,14 +78,8 @@ module _ (s room table : List ℕ) where
         stretches = omega (arith, is_table, length_table (stretches_of s))
 
         -- Both were written at the front of their rooms.
-        pub done : (room' table' : List ℕ) → room' ≡ written (take sums.kept kept) room → table' ≡ written (take sums.table skipped) table
-            → Said s room table (Ok (record { kept = sums.kept; stretches = sums.table / 4 })) room' table'
+        pub done : (front skips : List ℕ) → front ≡ take sums.kept kept → skips ≡ take sums.table skipped
+            → Said s room table (Ok (record { kept = sums.kept; stretches = sums.table / 4 })) (front ++ drop sums.kept room) (skips ++ drop sums.table table)
         unfolding rescued_as room_after table_after
-        done room' table' put_kept put_table =
-            rw (code_done, stretches, ← is_kept) (
-              refl,
-              (
-                put_kept ∙ ap (λ l. written l room) g.kept_front ∙ with_room (kept_of s) room (omega (arith, is_kept)),
-                put_table ∙ ap (λ l. written l table) g.table_front ∙ with_room (skipped_of s) table (omega (arith, is_table)),
-              ),
-            )
+        done front skips put_kept put_table =
+            rw (code_done, stretches, is_kept, is_table, put_kept ∙ g.kept_front, put_table ∙ g.table_front) (refl, (refl, refl))

@@ -9,7 +9,6 @@ use lib.ListN.{length, take, drop, get_or, length-drop, drop_of_length-le}
 use lib.Seq.{sets, length-sets, drop-drop, length-take-le}
 use lib.Dec.{eqb, leb}
 use borrow.Author.Tests.{ne_eqb, eqb-false}
-use Rattle.words.specs.BigEndian.{word_bytes}
 use Rattle.words.specs.Text.{place_after, stored_at}
 use Rattle.words.proofs.Stores.{place_fits, stored_fits, front_more}
 use Rattle.wire.specs.Read.{span_of}
@@ -45,13 +44,17 @@ nothing_skipped pos end run table none = rw none (place (leb (pos + 0) (length t
     room true = refl
     room false = refl
 
-pub both_numbers : (end run : ℕ) → run ≢ 0 → run ≤ end → end ≤ 4096 → word_bytes ((end - run) * 65536 + run) ≡ table_of (stretch_to end run)
+-- The two bytes of a number of 16 bits, as the library gives them.
+abbrev halves : ℕ → List ℕ
+halves v = v / 256 % 256 ∷ v % 256 ∷ []
+
+pub both_numbers : (end run : ℕ) (start size : List ℕ) → run ≢ 0 → run ≤ end → end ≤ 4096 → start ≡ halves (end - run) → size ≡ halves run
+    → get_or start 0 0 ∷ get_or start 1 0 ∷ get_or size 0 0 ∷ get_or size 1 0 ∷ [] ≡ table_of (stretch_to end run)
 unfolding table_of
-both_numbers end run some within few =
-    let numbers : ℕ = (end - run) * 65536 + run in
-    let high : numbers / 65536 ≡ end - run = omega arith in
-    let low : numbers % 65536 ≡ run = omega arith in
-    rw (high, low, ne_eqb run 0 some)
+both_numbers end run start size some within few is_start is_size =
+    let first : (end - run) / 256 % 256 ≡ (end - run) / 256 = omega arith in
+    let second : run / 256 % 256 ≡ run / 256 = omega arith in
+    rw (is_start, is_size, first, second, ne_eqb run 0 some)
 
 -- A stretch takes four bytes of the table, and skips a byte at least.
 stretch_length : (end run : ℕ) → (9 * length (table_of (stretch_to end run)) ≤ 32 + 4 * run) × (length (table_of (stretch_to end run)) ≤ 4)

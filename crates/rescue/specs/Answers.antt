@@ -2,7 +2,7 @@
 use Rattle.std.specs.Prelude.{ℕ, ◌*◌, List, [], ◌∷◌, ◌++◌, cond, not, ◌||◌, length, drop, eqb, ltb, Result, Ok, Err}
 use Rattle.words.specs.BigEndian.{has_room}
 use Rattle.words.specs.Codes.{Check, ◌when◌, first_of}
-use Rattle.rescue.specs.declared.Kept.{Kept}
+use Rattle.rescue.specs.declared.Rescued.{Rescued}
 use Rattle.rescue.specs.declared.Refusal.{Refusal}
 use Rattle.rescue.specs.Pieces.{kept_of, stretches_of, table_of}
 
@@ -32,7 +32,7 @@ abbrev pub refusal_code : Refusal → ℕ
 refusal_code Refusal.TooLong = 20
 refusal_code Refusal.NoRoom = 24
 
-abbrev pub answer_of : Result Kept Refusal → Answer
+abbrev pub answer_of : Result Rescued Refusal → Answer
 answer_of (Ok done) = answer 0 done.kept done.stretches
 answer_of (Err refusal) = answer (refusal_code refusal) 0 0
 

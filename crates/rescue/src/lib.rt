@@ -1,47 +1,61 @@
-// What is left of a damaged list: the commands in it that codes 1 to 8 let pass are kept, and beside them it is told which stretches of bytes were skipped.
-// All of it is read into buffers first, and only then are the rooms touched.
+//! What is left of a damaged list: the commands in it that codes 1 to 8 let pass are kept, and beside them it is told which stretches of bytes were skipped.
+//! All of it is read into buffers first, and only then are the rooms touched. Rules: "Rescue a damaged list".
 #![tactic(auto)]
 
 ghost use Rattle.std.specs.Prelude.{◌≤◌, ◌≡◌, length};
+ghost use Rattle.std.proofs.Common.{arith};
 ghost use Rattle.words.specs.Text.{place_after, stored_at};
 ghost use Rattle.wire.specs.Judge.{told_of};
+ghost use Rattle.rescue.specs.declared.Refusal.TheVariants.{TooLong, NoRoom};
 ghost use Rattle.rescue.specs.Pieces.{passes, passing, stretch_to, table_of};
 ghost use Rattle.rescue.specs.Answers.{refusal_code, answer_of, table_size, rescued_as, room_after, table_after};
 ghost use Rattle.rescue.specs.Steps.{Gathered};
 
-// The bytes of one stretch in a table: two numbers of 16 bits, its start and its length.
+use words::Code;
+
+/// The bytes of one stretch in a table: two numbers of 16 bits, its start and its length.
 pub const STRETCH: usize = 4;
 
-// The most stretches of a list that is taken: between two of them lies a command, which has eight bytes at least.
+/// The most stretches of a list that is taken: between two of them lies a command, which has eight bytes at least.
 pub const MOST: usize = 456;
 
-// Room for a table of the most stretches.
+/// Room for a table of the most stretches.
 pub const TABLE: usize = MOST * STRETCH;
 
 // The bytes of the longest command.
 const LONGEST_COMMAND: usize = 128;
 
-// A stretch is written as one number of 32 bits, in which its start counts so much.
-const HALVES: u32 = 65536;
-
-// How many bytes were kept, and how many stretches skipped.
+/// How many bytes were kept, and how many stretches skipped.
 #[derive(Clone, Copy, Debug, PartialEq, Eq)]
-pub struct Kept {
+pub struct Rescued {
     pub kept: usize,
     pub stretches: usize,
 }
 
-// Why nothing was written.
+impl Rescued {
+    /// How many bytes of the table were written. No list that is taken has more than the most stretches.
+    pub fn table(self) -> usize
+        ensures { result ≡ table_size self.stretches }
+    {
+        self.stretches.min(MOST) * STRETCH
+    }
+}
+
+/// Why nothing was written.
 #[derive(Clone, Copy, Debug, PartialEq, Eq)]
 pub enum Refusal {
+    /// The list has more bytes than a list may have (20).
     TooLong,
+    /// The commands that are kept, or the stretches, have too little room (24).
     NoRoom,
 }
 
-impl Refusal {
-    pub fn code(self) -> u8
-        ensures { result ≡ refusal_code self }
-    {
+impl Code for Refusal {
+    ghost code = { refusal_code };
+
+    ghost refuses = { elim [ TooLong ↦ Prim.omega arith | NoRoom ↦ Prim.omega arith ] };
+
+    fn code(&self) -> u8 {
         match self {
             Refusal::TooLong => 20,
             Refusal::NoRoom => 24,
@@ -49,56 +63,11 @@ impl Refusal {
     }
 }
 
-// What came of it.
-pub type Rescued = Result<Kept, Refusal>;
-
 // What was gathered: how many bytes of commands, and how many of the table of stretches.
 #[derive(Drop)]
 struct Sums {
     kept: usize,
     table: usize,
-}
-
-// The code of an answer.
-pub fn code_of(rescued: Rescued) -> u8
-    ensures { result ≡ (answer_of rescued).code }
-{
-    match rescued {
-        Ok(_) => 0,
-        Err(refusal) => refusal.code(),
-    }
-}
-
-// How many bytes were kept; none on a refusal.
-pub fn kept_of(rescued: Rescued) -> usize
-    ensures { result ≡ (answer_of rescued).kept }
-{
-    rescued.map_or(0, |done| done.kept)
-}
-
-// How many stretches were skipped; none on a refusal.
-pub fn stretches_of(rescued: Rescued) -> usize
-    ensures { result ≡ (answer_of rescued).stretches }
-{
-    rescued.map_or(0, |done| done.stretches)
-}
-
-// How many bytes so many stretches take in a table. No list that is taken has more than the most.
-fn table_size(stretches: usize) -> usize
-    ensures { result ≡ table_size stretches }
-{
-    if stretches < MOST {
-        stretches * STRETCH
-    } else {
-        TABLE
-    }
-}
-
-// How many bytes of the table were written; none on a refusal.
-pub fn table_of(rescued: Rescued) -> usize
-    ensures { result ≡ table_size (answer_of rescued).stretches }
-{
-    table_size(stretches_of(rescued))
 }
 
 // Is a refusal about the flag alone? Then the command is kept though it is refused.
@@ -126,10 +95,7 @@ fn reads_well(s: &[u8]) -> bool
 fn passes(s: &[u8]) -> bool
     ensures { result ≡ passing s.now }
 {
-    if wire::span(s) <= LONGEST_COMMAND {
-        return reads_well(s);
-    }
-    false
+    wire::span(s) <= LONGEST_COMMAND && reads_well(s)
 }
 
 // Puts the stretch of so many bytes that ends at a place of the list into a table, from a place on, and says which place comes next. There is none
@@ -143,8 +109,9 @@ fn put_stretch(table: &mut [u8], pos: usize, end: usize, run: usize) -> usize
     if run == 0 {
         return pos;
     }
-    let numbers = words::word_bytes(((end - run) as u32) * HALVES + (run as u32));
-    words::put_at(table, pos, &numbers)
+    let [start_high, start_low] = ((end - run) as u16).to_be_bytes();
+    let [size_high, size_low] = (run as u16).to_be_bytes();
+    words::put_at(table, pos, &[start_high, start_low, size_high, size_low])
 }
 
 // Puts the commands that pass at the front of one buffer, and the stretches between them at the front of another. Each turn reads once at most: it keeps
@@ -175,8 +142,14 @@ fn gather(list: &[u8], kept: &mut [u8], table: &mut [u8]) -> Sums
     Sums { kept: n, table: m }
 }
 
-// The commands of a damaged list that pass, at the front of a room, and the stretches that were skipped, at the front of a table.
-pub fn rescue(list: &[u8], room: &mut [u8], table: &mut [u8]) -> Rescued
+/// Puts the commands of a damaged list that pass at the front of a room, and the stretches that were skipped at the front of a table, and says how many
+/// bytes of the one and how many stretches; what lies behind them stays as it was. A room as long as the list and a table of `TABLE` bytes are always enough.
+///
+/// # Errors
+///
+/// `TooLong` (20) where the list has more than `walk::LONGEST` bytes, then `NoRoom` (24) where the room or the table is too small. Both are then as they were.
+/// Rules: "Rescue a damaged list".
+pub fn rescue(list: &[u8], room: &mut [u8], table: &mut [u8]) -> Result<Rescued, Refusal>
     ensures result_value { answer_of result ≡ rescued_as list.now room.old table.old }
     ensures room_after { room.new ≡ room_after list.now room.old table.old }
     ensures table_after { table.new ≡ table_after list.now room.old table.old }
@@ -187,18 +160,13 @@ pub fn rescue(list: &[u8], room: &mut [u8], table: &mut [u8]) -> Rescued
     let mut kept = [0u8; walk::LONGEST];
     let mut stretches = [0u8; TABLE];
     let sums = gather(list, &mut kept, &mut stretches);
-    let n = sums.kept;
-    let m = sums.table;
-    if room.len() < n {
+    if room.len() < sums.kept || table.len() < sums.table {
         return Err(Refusal::NoRoom);
     }
-    if table.len() < m {
-        return Err(Refusal::NoRoom);
-    }
-    words::put_bytes(room, &kept[..n]);
-    words::put_bytes(table, &stretches[..m]);
-    Ok(Kept {
-        kept: n,
-        stretches: m / STRETCH,
+    room[..sums.kept].copy_from_slice(&kept[..sums.kept]);
+    table[..sums.table].copy_from_slice(&stretches[..sums.table]);
+    Ok(Rescued {
+        kept: sums.kept,
+        stretches: sums.table / STRETCH,
     })
 }

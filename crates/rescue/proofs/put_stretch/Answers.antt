@@ -1,4 +1,4 @@
--- `put_stretch` meets its contract: start and length as one number of 32 bits are the bytes of the stretch.
+-- `put_stretch` meets its contract: start and length, two bytes each, are the bytes of the stretch.
 use mathlib.Core.Path.{ap, ◌∙◌}
 use Rattle.words.specs.Text.{place_after, stored_at}
 use Rattle.rescue.proofs.Turns.{nothing_skipped, both_numbers}
@@ -12,16 +12,10 @@ returns-then-run-eq0-clause-table_after c = (nothing_skipped _ _ _ _ c.if-run-eq
 
 pub returns-clause-value : goal.returns-clause-value
 returns-clause-value c =
-    let table = c.args.table.now in
-    let pos = c.args.pos in
-    let put = c.put_at.ensures in
-    let bytes = c.word_bytes-numbers.ensures ∙ both_numbers c.args.end c.args.run c.if-run-eq0.false c.requires.run_le_end c.requires.end_bound in
-    put.value ∙ ap (λ l. place_after l pos table) bytes
+    let bytes = both_numbers c.args.end c.args.run _ _ c.if-run-eq0.false c.requires.run_le_end c.requires.end_bound c.to_be_bytes.ensures c.to_be_bytes-2.ensures in
+    c.put_at.ensures.value ∙ ap (λ l. place_after l c.args.pos c.args.table.now) bytes
 
 pub returns-clause-table_after : goal.returns-clause-table_after
 returns-clause-table_after c =
-    let table = c.args.table.now in
-    let pos = c.args.pos in
-    let put = c.put_at.ensures in
-    let bytes = c.word_bytes-numbers.ensures ∙ both_numbers c.args.end c.args.run c.if-run-eq0.false c.requires.run_le_end c.requires.end_bound in
-    put.room_after ∙ ap (λ l. stored_at l pos table) bytes
+    let bytes = both_numbers c.args.end c.args.run _ _ c.if-run-eq0.false c.requires.run_le_end c.requires.end_bound c.to_be_bytes.ensures c.to_be_bytes-2.ensures in
+    c.put_at.ensures.room_after ∙ ap (λ l. stored_at l c.args.pos c.args.table.now) bytes
