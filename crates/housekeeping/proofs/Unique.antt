@@ -7,8 +7,8 @@ use lib.Dec.{eqb}
 use Rattle.words.proofs.Laws.{one_to_one}
 use Rattle.housekeeping.specs.declared.Housekeeping.{Housekeeping}
 use Rattle.housekeeping.specs.declared.Refusal.{Refusal}
-use Rattle.housekeeping.specs.declared.Reading.{Reading}
-use Rattle.housekeeping.specs.declared.Writing.{Writing}
+use Rattle.std.specs.Prelude.{Result, Ok, Err}
+use Rattle.words.specs.declared.codes.NoRoom.{NoRoom}
 use Rattle.housekeeping.specs.Answers.{Answer, code_of, answer_of, wrote_of}
 
 -- The refusal with a code.
@@ -27,29 +27,29 @@ pub one_refusal : (x y : Refusal) → code_of x ≡ code_of y → x ≡ y
 one_refusal = one_to_one code_of refusal_of refusal_back
 
 -- The reading with an answer.
-abbrev reading_of : Answer → Reading
+abbrev reading_of : Answer → Result Housekeeping Refusal
 reading_of a = from a.taken
   where
-    from : List Housekeeping → Reading
-    from [] = Reading.Refused (refusal_of a.code)
-    from (h ∷ hs) = Reading.Taken h
+    from : List Housekeeping → Result Housekeeping Refusal
+    from [] = Err (refusal_of a.code)
+    from (h ∷ hs) = Ok h
 
-reading_back : (r : Reading) → reading_of (answer_of r) ≡ r
-reading_back (Reading.Taken h) = refl
-reading_back (Reading.Refused refusal) = ap Reading.Refused (refusal_back refusal)
+reading_back : (r : Result Housekeeping Refusal) → reading_of (answer_of r) ≡ r
+reading_back (Ok h) = refl
+reading_back (Err refusal) = ap Err (refusal_back refusal)
 
 -- No two readings say the same: `read_housekeeping` has one result.
-pub one_reading : (x y : Reading) → answer_of x ≡ answer_of y → x ≡ y
+pub one_reading : (x y : Result Housekeeping Refusal) → answer_of x ≡ answer_of y → x ≡ y
 one_reading = one_to_one answer_of reading_of reading_back
 
 -- The writing with a code.
-abbrev writing_of : ℕ → Writing
-writing_of code = cond (eqb code 0) Writing.Written Writing.NoRoom
+abbrev writing_of : ℕ → Result Unit NoRoom
+writing_of code = cond (eqb code 0) (Ok tt) (Err (record {}))
 
-writing_back : (w : Writing) → writing_of (wrote_of w) ≡ w
-writing_back Writing.Written = refl
-writing_back Writing.NoRoom = refl
+writing_back : (w : Result Unit NoRoom) → writing_of (wrote_of w) ≡ w
+writing_back (Ok w) = refl
+writing_back (Err refused) = refl
 
 -- No two writings say the same: `write_housekeeping` has one result.
-pub one_writing : (x y : Writing) → wrote_of x ≡ wrote_of y → x ≡ y
+pub one_writing : (x y : Result Unit NoRoom) → wrote_of x ≡ wrote_of y → x ≡ y
 one_writing = one_to_one wrote_of writing_of writing_back

@@ -1,13 +1,12 @@
 -- 02, Q-11, the codes: "Refusals for reading, in order at each item: 47 fewer bytes than it takes, 48 unexpected tag, 49 wrong length; then 50 bytes left
 -- over. Writing gives 24."
-use Rattle.std.specs.Prelude.{ℕ, ◌+◌, List, [], ◌∷◌, ◌++◌, cond, not, length, eqb, ltb}
+use Rattle.std.specs.Prelude.{ℕ, ◌+◌, List, [], ◌∷◌, ◌++◌, cond, not, length, eqb, ltb, Result, Ok, Err}
 use Rattle.words.specs.BigEndian.{byte_at, has_room}
-use Rattle.words.specs.Codes.{Check, ◌when◌, first_of}
+use Rattle.words.specs.Codes.{Check, ◌when◌, first_of, answer_code}
+use Rattle.words.specs.declared.codes.NoRoom.{NoRoom}
 use Rattle.housekeeping.specs.declared.Housekeeping.{Housekeeping}
 use Rattle.housekeeping.specs.declared.Item.{Item}
 use Rattle.housekeeping.specs.declared.Refusal.{Refusal}
-use Rattle.housekeeping.specs.declared.Reading.{Reading}
-use Rattle.housekeeping.specs.declared.Writing.{Writing}
 use Rattle.housekeeping.specs.Frame.{row_of, end_of, frame_bytes, frame_at}
 
 -- 02's number of each refusal.
@@ -22,9 +21,9 @@ pub record Answer : Type 0 where
   pub code : ℕ
   pub taken : List Housekeeping
 
-abbrev pub answer_of : Reading → Answer
-answer_of (Reading.Taken h) = record { code = 0; taken = h ∷ [] }
-answer_of (Reading.Refused refusal) = record { code = code_of refusal; taken = [] }
+abbrev pub answer_of : Result Housekeeping Refusal → Answer
+answer_of (Ok h) = record { code = 0; taken = h ∷ [] }
+answer_of (Err refusal) = record { code = code_of refusal; taken = [] }
 
 -- The rows of one item,
 abbrev pub item_checks : Item → List ℕ → List Check
@@ -50,9 +49,8 @@ unfolding read_code
 read_of s = record { code = read_code s; taken = cond (eqb (read_code s) 0) (frame_at s ∷ []) [] }
 
 -- What a writing says.
-abbrev pub wrote_of : Writing → ℕ
-wrote_of Writing.Written = 0
-wrote_of Writing.NoRoom = 24
+abbrev pub wrote_of : Result Unit NoRoom → ℕ
+wrote_of = answer_code (λ _. 24)
 
 abbrev pub write_checks : Housekeeping → List ℕ → List Check
 write_checks h room = 24 when not (has_room (frame_bytes h) room) ∷ []

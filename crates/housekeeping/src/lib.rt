@@ -1,15 +1,20 @@
-// The housekeeping frame of 18 bytes: four numbers, each behind a tag and a length; reading (47 to 50) and writing (24).
+//! The housekeeping frame of 18 bytes: four numbers, each behind a tag and a length; reading (47 to 50) and writing (24).
 #![tactic(auto)]
 
-ghost use Rattle.std.specs.Prelude.{◌≡◌, ◌++◌};
-ghost use Rattle.words.specs.BigEndian.{written};
+ghost use Rattle.std.proofs.Common.{rules};
+ghost use Rattle.std.specs.Prelude.{◌≡◌, [], ◌∷◌, ◌++◌};
+ghost use Rattle.std.specs.List.{flat_map};
+ghost use Rattle.words.specs.BigEndian.{word_bytes, written};
 ghost use Rattle.words.specs.Codes.{first_of};
-ghost use Rattle.housekeeping.specs.Frame.{row_of, value_at, frame_bytes, frame_at};
+ghost use Rattle.housekeeping.specs.Frame.{row_of, value_at, item_bytes, frame_bytes, frame_at};
 ghost use Rattle.housekeeping.specs.Answers.{code_of, answer_of, item_checks, items_checks, read_of, wrote_of, write_code};
+ghost use Rattle.housekeeping.specs.declared.Item.{Item};
 ghost use Rattle.housekeeping.specs.Steps.{judged_code};
 
-// The numbers of a frame: the last received number, the last failed one and its code, and the free slots.
-#[derive(Clone, Copy)]
+use words::{Code, NoRoom};
+
+/// The numbers of a frame: the last received number, the last failed one and its code, and the free slots.
+#[derive(Clone, Copy, Debug, PartialEq, Eq)]
 pub struct Housekeeping {
     pub received: u32,
     pub failed: u32,
@@ -17,7 +22,8 @@ pub struct Housekeeping {
     pub free: u8,
 }
 
-#[derive(Clone, Copy)]
+/// Why bytes are no frame: 47, 48 and 49 at an item, 50 behind the last.
+#[derive(Clone, Copy, Debug, PartialEq, Eq)]
 pub enum Refusal {
     CutOff,
     WrongTag,
@@ -25,16 +31,19 @@ pub enum Refusal {
     LeftOver,
 }
 
-#[derive(Clone, Copy)]
-pub enum Reading {
-    Taken(Housekeeping),
-    Refused(Refusal),
-}
+impl Code for Refusal {
+    ghost code = { code_of };
 
-#[derive(Clone, Copy)]
-pub enum Writing {
-    Written,
-    NoRoom,
+    ghost refuses = { Prim.search rules };
+
+    fn code(&self) -> u8 {
+        match self {
+            Refusal::CutOff => 47,
+            Refusal::WrongTag => 48,
+            Refusal::WrongLength => 49,
+            Refusal::LeftOver => 50,
+        }
+    }
 }
 
 // The items of a frame, one to a number.
@@ -54,29 +63,11 @@ struct Row {
     size: u8,
 }
 
-#[derive(Drop)]
-enum Judged {
-    Passed,
-    Refused(Refusal),
-}
-
 // The bytes of a frame.
 pub const SIZE: usize = 18;
 
 // An item's tag and length, which stand in front of its value.
 const HEAD: usize = 2;
-
-// The code of a refusal.
-pub fn code_of(refusal: Refusal) -> u8
-    ensures { result ≡ code_of refusal }
-{
-    match refusal {
-        Refusal::CutOff => 47,
-        Refusal::WrongTag => 48,
-        Refusal::WrongLength => 49,
-        Refusal::LeftOver => 50,
-    }
-}
 
 fn row_of(item: Item) -> Row
     ensures { result ≡ row_of item }
@@ -113,41 +104,31 @@ fn value_at(item: Item) -> usize
 }
 
 // One item: 47, then 48, then 49.
-fn judge_item(s: &[u8], item: Item) -> Judged
+fn judge_item(s: &[u8], item: Item) -> Result<(), Refusal>
     ensures { judged_code result ≡ first_of (item_checks item s.now) }
 {
     let row = row_of(item);
     let at = row.at;
-    if s.len() < at + HEAD + (row.size as usize) {
-        return Judged::Refused(Refusal::CutOff);
+    if s.len() < at + HEAD + usize::from(row.size) {
+        return Err(Refusal::CutOff);
     }
     if s[at] != row.tag {
-        return Judged::Refused(Refusal::WrongTag);
+        return Err(Refusal::WrongTag);
     }
     if s[at + 1] != row.size {
-        return Judged::Refused(Refusal::WrongLength);
+        return Err(Refusal::WrongLength);
     }
-    Judged::Passed
-}
-
-// Two items, one after the other.
-fn judge_pair(s: &[u8], first: Item, second: Item) -> Judged
-    ensures { judged_code result ≡ first_of (item_checks first s.now ++ item_checks second s.now) }
-{
-    match judge_item(s, first) {
-        Judged::Refused(refusal) => Judged::Refused(refusal),
-        Judged::Passed => judge_item(s, second),
-    }
+    Ok(())
 }
 
 // All four items, in their order.
-fn judge_items(s: &[u8]) -> Judged
+fn judge_items(s: &[u8]) -> Result<(), Refusal>
     ensures { judged_code result ≡ first_of (items_checks s.now) }
 {
-    match judge_pair(s, Item::Received, Item::Failed) {
-        Judged::Refused(refusal) => Judged::Refused(refusal),
-        Judged::Passed => judge_pair(s, Item::Code, Item::Free),
-    }
+    judge_item(s, Item::Received)?;
+    judge_item(s, Item::Failed)?;
+    judge_item(s, Item::Code)?;
+    judge_item(s, Item::Free)
 }
 
 // The numbers that these bytes say.
@@ -162,55 +143,58 @@ fn frame_at(s: &[u8]) -> Housekeeping
     }
 }
 
-// The frame that these bytes are: 47 to 49 at each item in turn, then 50.
-pub fn read_housekeeping(s: &[u8]) -> Reading
+/// The frame that these bytes are.
+///
+/// # Errors
+///
+/// 47, 48 and 49 at each of the four items in turn, then 50 where bytes are left over.
+pub fn read_housekeeping(s: &[u8]) -> Result<Housekeeping, Refusal>
     ensures { answer_of result ≡ read_of s.now }
 {
-    match judge_items(s) {
-        Judged::Refused(refusal) => Reading::Refused(refusal),
-        Judged::Passed => {
-            if SIZE < s.len() {
-                return Reading::Refused(Refusal::LeftOver);
-            }
-            Reading::Taken(frame_at(s))
-        }
+    judge_items(s)?;
+    if SIZE < s.len() {
+        return Err(Refusal::LeftOver);
     }
+    Ok(frame_at(s))
 }
 
-// A frame at the front of a room.
-pub fn write_housekeeping(h: Housekeeping, room: &mut [u8]) -> Writing
+// An item of four bytes, with its tag and its length.
+fn word_item(item: Item, value: u32) -> [u8; 6]
+    ensures { result ≡ item_bytes item (word_bytes value) }
+{
+    let row = row_of(item);
+    let [a, b, c, d] = value.to_be_bytes();
+    [row.tag, row.size, a, b, c, d]
+}
+
+// Two items of a byte, one behind the other.
+fn byte_items(code: u8, free: u8) -> [u8; 6]
+    ensures { result ≡ item_bytes Item.Code (code ∷ []) ++ item_bytes Item.Free (free ∷ []) }
+{
+    let first = row_of(Item::Code);
+    let second = row_of(Item::Free);
+    [first.tag, first.size, code, second.tag, second.size, free]
+}
+
+// The bytes of a frame, six by six.
+fn bytes_of(h: Housekeeping) -> [[u8; 6]; 3]
+    ensures { flat_map (λ six. six) result ≡ frame_bytes h }
+{
+    [
+        word_item(Item::Received, h.received),
+        word_item(Item::Failed, h.failed),
+        byte_items(h.code, h.free),
+    ]
+}
+
+/// Writes a frame at the front of a room; the rest of the room stays as it was.
+///
+/// # Errors
+///
+/// `NoRoom` (24) where the room has fewer bytes than a frame. It is then as it was.
+pub fn write_housekeeping(h: Housekeeping, room: &mut [u8]) -> Result<(), NoRoom>
     ensures result_value { wrote_of result ≡ write_code h room.old }
     ensures room_after { room.new ≡ written (frame_bytes h) room.old }
 {
-    let received = row_of(Item::Received);
-    let failed = row_of(Item::Failed);
-    let code = row_of(Item::Code);
-    let free = row_of(Item::Free);
-    let r = words::word_bytes(h.received);
-    let f = words::word_bytes(h.failed);
-    let bytes = [
-        received.tag,
-        received.size,
-        r[0],
-        r[1],
-        r[2],
-        r[3],
-        failed.tag,
-        failed.size,
-        f[0],
-        f[1],
-        f[2],
-        f[3],
-        code.tag,
-        code.size,
-        h.code,
-        free.tag,
-        free.size,
-        h.free,
-    ];
-    if words::put_bytes(room, &bytes) {
-        Writing::Written
-    } else {
-        Writing::NoRoom
-    }
+    words::put_bytes(room, bytes_of(h).as_flattened())
 }
