@@ -13,6 +13,8 @@ mod refusals;
 
 pub use refusals::{Numbered, Output, put_outcome, put_refusal};
 
+use words::NoRoom;
+
 // The bytes of the header, and of the longest line.
 const HEADER: usize = 21;
 
@@ -24,23 +26,6 @@ pub const TEXT: usize = HEADER + report::RECORDS * LINE;
 const BLANK: u8 = b' ';
 
 const LINE_FEED: u8 = b'\n';
-
-// Put: how many bytes.
-#[derive(Clone, Copy)]
-pub enum Put {
-    Done(usize),
-    NoRoom,
-}
-
-// How many bytes were put.
-pub fn bytes_of(put: Put) -> usize
-    ensures { result ≡ (answer_of put).bytes }
-{
-    match put {
-        Put::Done(bytes) => bytes,
-        Put::NoRoom => 0,
-    }
-}
 
 // What a line says of a record, in the order of the columns. Public, since the meaning of a line names it.
 #[derive(Clone, Copy)]
@@ -71,7 +56,7 @@ pub fn kit_list() -> [u8; 48]
         0x005c_0003,
     ];
     let mut list = [0; 48];
-    words::put_words(&mut list, &commands);
+    let _ = words::put_words(&mut list, &commands);
     list
 }
 
@@ -190,15 +175,20 @@ fn put_lines(room: &mut [u8], from: usize, records: &[u8]) -> usize
     at
 }
 
-// Puts the text of a report, the header and a line for each whole record, at the front of a room. `TEXT` bytes are enough for the records of a run.
-pub fn put_report(room: &mut [u8], records: &[u8]) -> Put
+/// Puts the text of a report, the header and a line for each whole record, at the front of a room, and says how many bytes it has; the rest of the room
+/// stays as it was. `TEXT` bytes are enough for the records of a run.
+///
+/// # Errors
+///
+/// `NoRoom` (24) where the text has too little room, which then stays as it was.
+pub fn put_report(room: &mut [u8], records: &[u8]) -> Result<usize, NoRoom>
     ensures result_value { answer_of result ≡ answer_for (report_text records.now) room.old }
     ensures room_after { room.new ≡ written (report_text records.now) room.old }
     ensures records_len_bound { length (report_text records.now) ≤ text_room (length records.now) }
 {
     if !fits(records, room.len()) {
-        return Put::NoRoom;
+        return Err(NoRoom);
     }
     let at = words::put_at(room, 0, b"from no code par val\n");
-    Put::Done(put_lines(room, at, records))
+    Ok(put_lines(room, at, records))
 }

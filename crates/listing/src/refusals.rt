@@ -6,9 +6,9 @@ ghost use Rattle.text.specs.Findings.{outcome};
 ghost use Rattle.listing.specs.Answer.{answer_of, answer_for};
 ghost use Rattle.listing.specs.Refusal.{labelled, word_of, stray_text, place_text, refusal_line, refusal_room, output_for, room_for};
 
-use super::{Put, bytes_of};
 use text::Finding;
 use wire::Stray;
+use words::NoRoom;
 
 // The bytes of the longest line.
 const LONGEST: usize = 81;
@@ -101,19 +101,20 @@ fn line_room() -> [u8; LONGEST]
     [0; LONGEST]
 }
 
-// Puts the line of a finding at the front of a room. 81 bytes are enough for it.
-pub fn put_refusal(room: &mut [u8], numbered: Numbered, found: Finding) -> Put
+/// Puts the line of a finding at the front of a room, and says how many bytes it has; the rest of the room stays as it was. 81 bytes are enough for it.
+///
+/// # Errors
+///
+/// `NoRoom` (24) where the line has too little room, which then stays as it was.
+pub fn put_refusal(room: &mut [u8], numbered: Numbered, found: Finding) -> Result<usize, NoRoom>
     ensures result_value { answer_of result ≡ answer_for (refusal_line numbered found) room.old }
     ensures room_after { room.new ≡ written (refusal_line numbered found) room.old }
     ensures found_len_bound { length (refusal_line numbered found) ≤ refusal_room }
 {
     let mut line = line_room();
     let bytes = put_found(&mut line, numbered, found);
-    if words::put_bytes(room, &line[..bytes]) {
-        Put::Done(bytes)
-    } else {
-        Put::NoRoom
-    }
+    words::put_bytes(room, &line[..bytes])?;
+    Ok(bytes)
 }
 
 // What is to be written of a room that a list or a text was to be made in, by what was found: its first so many bytes; or, where something was found,
@@ -125,9 +126,8 @@ pub fn put_outcome(room: &mut [u8], numbered: Numbered, found: Finding, bytes: u
 {
     let told = found.told;
     if told.code != 0 {
-        let put = put_refusal(room, numbered, found);
         return Output {
-            bytes: bytes_of(put),
+            bytes: put_refusal(room, numbered, found).unwrap_or(0),
             refused: true,
         };
     }

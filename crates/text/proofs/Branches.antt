@@ -9,26 +9,25 @@ use Rattle.wire.specs.declared.table.Form.{Form}
 use Rattle.wire.specs.declared.kinds.Command.{Command}
 use Rattle.wire.specs.Table.{row_of, arguments_of}
 use Rattle.wire.specs.Read.{Answer}
-use Rattle.text.specs.declared.names.Named.{Named}
-use Rattle.text.specs.declared.number.Number.{Number}
 use Rattle.text.specs.Split.{space}
 use Rattle.text.specs.Names.{form_named}
 use Rattle.text.specs.Line.{first_of, second_of, line_of}
 use Rattle.text.specs.Steps.{count_of, front_of, behind_of, refused, judged_line, read_line, known_line, named_line, typed_line, line_by}
 use Rattle.text.proofs.ByWords.{line_by_lem}
+use Rattle.std.specs.Prelude.{Option, Some, None}
 
 module _ (P : List Command → Type 0) (none : P [])
     (judged : (form : Form) (flag : Bool) (one two : List ℕ) (first second : ℕ)
-    → first_of (row_of form).layout one ≡ Number.Whole first → second_of (row_of form).layout two ≡ Number.Whole second
+    → first_of (row_of form).layout one ≡ Some first → second_of (row_of form).layout two ≡ Some second
     → P (judged_line form flag first second).taken) where
   read_any : (form : Form) (flag : Bool) (one two : List ℕ)
       → P (read_line form flag (first_of (row_of form).layout one) (second_of (row_of form).layout two)).taken
   read_any form flag one two = go (first_of (row_of form).layout one) (second_of (row_of form).layout two) refl refl
     where
-      go : (a b : Number) → first_of (row_of form).layout one ≡ a → second_of (row_of form).layout two ≡ b → P (read_line form flag a b).taken
-      go (Number.Whole first) (Number.Whole second) first_is second_is = judged form flag one two first second first_is second_is
-      go (Number.Whole first) Number.Malformed first_is second_is = none
-      go Number.Malformed b first_is second_is = none
+      go : (a b : Option ℕ) → first_of (row_of form).layout one ≡ a → second_of (row_of form).layout two ≡ b → P (read_line form flag a b).taken
+      go (Some first) (Some second) first_is second_is = judged form flag one two first second first_is second_is
+      go (Some first) None first_is second_is = none
+      go None b first_is second_is = none
 
   known_any : (form : Form) (flag : Bool) (body : List ℕ) → P (known_line form flag body).taken
   unfolding known_line
@@ -43,9 +42,9 @@ module _ (P : List Command → Type 0) (none : P [])
       go true = read_any form flag (front_of space (behind_of space body)) (front_of space (behind_of space (behind_of space body)))
       go false = none
 
-  named_any : (n : Named) (flag : Bool) (body : List ℕ) → P (named_line n flag body).taken
-  named_any (Named.Known form) flag body = known_any form flag body
-  named_any Named.Unknown flag body = none
+  named_any : (n : Option Form) (flag : Bool) (body : List ℕ) → P (named_line n flag body).taken
+  named_any (Some form) flag body = known_any form flag body
+  named_any None flag body = none
 
   typed_any : (flag : Bool) (body : List ℕ) → P (typed_line flag body).taken
   unfolding typed_line

@@ -13,14 +13,13 @@ use Rattle.wire.specs.Table.{row_of, arguments_of}
 use Rattle.wire.specs.Kind.{parts_with, kind_of}
 use Rattle.wire.specs.Judge.{told_for, part_checks}
 use Rattle.wire.specs.Read.{Answer}
-use Rattle.text.specs.declared.names.Named.{Named}
-use Rattle.text.specs.declared.number.Number.{Number}
 use Rattle.text.specs.Split.{space, words_of}
 use Rattle.text.specs.Number.{is_malformed, value_of}
 use Rattle.text.specs.Names.{form_named}
 use Rattle.text.specs.Line.{first_of, second_of, first_in, second_in, line_checks, parts_in, form_in, command_in, typed_as, line_of}
 use Rattle.text.specs.Steps.{count_of, run_of, front_of, behind_of, refused, read_line, known_line, named_line, typed_line, line_by}
 use Rattle.text.proofs.Splitting.{words_next, words_count}
+use Rattle.std.specs.Prelude.{Option, Some, None}
 
 -- Where there is no mark, nothing stands behind one.
 none_behind : (mark : ℕ) (s : List ℕ) → count_of mark s ≡ 0 → behind_of mark s ≡ []
@@ -66,7 +65,7 @@ count_words s n = go (eqb (count_of space s) n) refl
 
 -- Codes 32, 31 and 8 to 10, branch by branch and as a list of checks.
 module _ (form : Form) (flag : Bool) where
-  abbrev answered : Bool → Number → Number → Answer
+  abbrev answered : Bool → Option ℕ → Option ℕ → Answer
   answered right x y =
       let parts = parts_with form (value_of x) (value_of y) in
       let code = first_due (32 when not right ∷ 31 when (is_malformed x || is_malformed y) ∷ part_checks flag parts) in
@@ -75,11 +74,11 @@ module _ (form : Form) (flag : Bool) where
         taken = cond (eqb code 0) (record { flag = flag; kind = kind_of form parts.first parts.second } ∷ []) [];
       }
 
-  branches : (right : Bool) (x y : Number) → cond right (read_line form flag x y) (refused 32) ≡ answered right x y
+  branches : (right : Bool) (x y : Option ℕ) → cond right (read_line form flag x y) (refused 32) ≡ answered right x y
   branches false x y = refl
-  branches true Number.Malformed y = refl
-  branches true (Number.Whole first) Number.Malformed = refl
-  branches true (Number.Whole first) (Number.Whole second) = refl
+  branches true None y = refl
+  branches true (Some first) None = refl
+  branches true (Some first) (Some second) = refl
 
   pub known_by : (body : List ℕ)
       → known_line form flag body
@@ -92,7 +91,7 @@ module _ (form : Form) (flag : Bool) where
       ∙ rw (count_words body (arguments_of (row_of form).layout), ← second_word body, ← third_word body)
 
 -- The whole line.
-abbrev answer_for : Named → Bool → List (List ℕ) → Answer
+abbrev answer_for : Option Form → Bool → List (List ℕ) → Answer
 answer_for named flag words =
     let code = first_due (line_checks named flag words) in
     record {
@@ -100,9 +99,9 @@ answer_for named flag words =
       taken = cond (eqb code 0) (command_in (form_in named) flag words ∷ []) [];
     }
 
-named_by : (named : Named) (flag : Bool) (body : List ℕ) → named_line named flag body ≡ answer_for named flag (words_of body)
-named_by Named.Unknown flag body = refl
-named_by (Named.Known form) flag body = known_by form flag body
+named_by : (named : Option Form) (flag : Bool) (body : List ℕ) → named_line named flag body ≡ answer_for named flag (words_of body)
+named_by None flag body = refl
+named_by (Some form) flag body = known_by form flag body
 
 pub typed_by : (flag : Bool) (body : List ℕ) → typed_line flag body ≡ typed_as flag (words_of body)
 unfolding typed_line typed_as

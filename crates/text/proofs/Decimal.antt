@@ -8,11 +8,11 @@ use lib.ListN.{length, take, drop}
 use lib.Seq.{take_at, drop_at}
 use lib.Dec.{ltb}
 use borrow.Author.Tests.{lt-ltb, ltb-true, ltb-false, le-leb, eq-eqb}
-use Rattle.text.specs.declared.number.Number.{Number}
 use Rattle.words.specs.Text.{ascii, decimal_in, decimal, value_from}
 use Rattle.text.specs.Lister.{goal_text}
 use Rattle.text.specs.Number.{is_digit, digits_in, whole_of, fraction_of, quarters_of, quarters_with}
 use Rattle.words.proofs.Decimal.{digit_of, digits_below, digits_some, value_in}
+use Rattle.std.specs.Prelude.{Some}
 
 -- Digits and nothing else.
 abbrev pub AllDigits : List ℕ → Type 0
@@ -82,7 +82,7 @@ module _ (n : ℕ) (small : n < 100000) (ys : List ℕ) (ends : Ends ys) where
   valued = rw (counted, take_at (decimal n) ys (length (decimal n)) refl) (value_in 10 n (omega arith))
 
 -- What was printed is read as the number that it was.
-pub whole_back : (n : ℕ) → n < 100000 → whole_of (decimal n) ≡ Number.Whole n
+pub whole_back : (n : ℕ) → n < 100000 → whole_of (decimal n) ≡ Some n
 unfolding whole_of
 whole_back n small =
     let same : decimal n ++ [] ≡ decimal n = append-nil (decimal n) in
@@ -97,16 +97,16 @@ quarters_read n small ys ends =
     let behind : drop (digits_in 5 (decimal n ++ ys)) (decimal n ++ ys) ≡ ys = rw count (drop_at (decimal n) ys (length (decimal n)) refl) in
     simp (lt-ltb 0 (digits_in 5 (decimal n ++ ys)) (omega (arith, count, digits_some n)), valued n small ys ends, behind)
 
-pub goal_back : (q : ℕ) → q < 400000 → quarters_of (goal_text q) ≡ Number.Whole q
+pub goal_back : (q : ℕ) → q < 400000 → quarters_of (goal_text q) ≡ Some q
 unfolding fraction_of
 goal_back q small = go (ltb (q % 4) 1) (ltb (q % 4) 2) (ltb (q % 4) 3) refl refl refl
   where
     go : (a b c : Bool) → ltb (q % 4) 1 ≡ a → ltb (q % 4) 2 ≡ b → ltb (q % 4) 3 ≡ c
-        → quarters_of (decimal (q / 4) ++ cond a [] (cond b (ascii ".25") (cond c (ascii ".5") (ascii ".75")))) ≡ Number.Whole q
-    go true b c e1 e2 e3 = quarters_read (q / 4) (omega arith) [] ends_nil ∙ ap Number.Whole (omega (arith, ltb-true (q % 4) 1 e1))
+        → quarters_of (decimal (q / 4) ++ cond a [] (cond b (ascii ".25") (cond c (ascii ".5") (ascii ".75")))) ≡ Some q
+    go true b c e1 e2 e3 = quarters_read (q / 4) (omega arith) [] ends_nil ∙ ap Some (omega (arith, ltb-true (q % 4) 1 e1))
     go false true c e1 e2 e3 =
-        quarters_read (q / 4) (omega arith) (ascii ".25") (ends_dot _) ∙ ap Number.Whole (omega (arith, ltb-false (q % 4) 1 e1, ltb-true (q % 4) 2 e2))
+        quarters_read (q / 4) (omega arith) (ascii ".25") (ends_dot _) ∙ ap Some (omega (arith, ltb-false (q % 4) 1 e1, ltb-true (q % 4) 2 e2))
     go false false true e1 e2 e3 =
-        quarters_read (q / 4) (omega arith) (ascii ".5") (ends_dot _) ∙ ap Number.Whole (omega (arith, ltb-false (q % 4) 2 e2, ltb-true (q % 4) 3 e3))
+        quarters_read (q / 4) (omega arith) (ascii ".5") (ends_dot _) ∙ ap Some (omega (arith, ltb-false (q % 4) 2 e2, ltb-true (q % 4) 3 e3))
     go false false false e1 e2 e3 =
-        quarters_read (q / 4) (omega arith) (ascii ".75") (ends_dot _) ∙ ap Number.Whole (omega (arith, ltb-false (q % 4) 3 e3))
+        quarters_read (q / 4) (omega arith) (ascii ".75") (ends_dot _) ∙ ap Some (omega (arith, ltb-false (q % 4) 3 e3))

@@ -11,12 +11,12 @@ use lib.Seq.{drop-cons, drop-length, take-suc, take_all}
 use lib.Dec.{eqb, ltb}
 use borrow.Author.Tests.{le-leb, lt-leb, lt-ltb, le-ltb, eq-eqb, ne_eqb}
 use Rattle.text.specs.declared.number.Digits.{Digits}
-use Rattle.text.specs.declared.number.Number.{Number}
 use Rattle.words.specs.Text.{ascii, value_from}
 use Rattle.words.proofs.Decimal.{value_append}
 use Rattle.text.specs.Number.{is_digit, digits_in, whole_of, fraction_of, quarters_with, quarters_of}
 use Rattle.text.specs.Split.{same_text}
 use Rattle.text.specs.Steps.{Counted}
+use Rattle.std.specs.Prelude.{Option, Some, None}
 
 -- So many digits were read.
 pub record Got (s : List ℕ) (value count : ℕ) : Type 0 where
@@ -90,42 +90,42 @@ module _ (s : List ℕ) (d : Digits) (counted : Counted s d) where
   pub value : d.value ≡ value_from 0 (take (digits_in 5 s) s)
   value = ap (λ e. e.value) counted.is
 
-  pub whole_none : d.count ≡ 0 → Number.Malformed ≡ whole_of s
+  pub whole_none : d.count ≡ 0 → None ≡ whole_of s
   unfolding whole_of
   whole_none none = simp (le-ltb 0 (digits_in 5 s) (omega (arith, count)))
 
-  pub whole_all : (d.count ≡ 0 → ⊥) → d.count ≡ length s → Number.Whole d.value ≡ whole_of s
+  pub whole_all : (d.count ≡ 0 → ⊥) → d.count ≡ length s → Some d.value ≡ whole_of s
   unfolding whole_of
   whole_all some all =
       simp (lt-ltb 0 (digits_in 5 s) (omega (arith, count, some)), eq-eqb (digits_in 5 s) (length s) (sym count ∙ all), value)
 
-  pub whole_part : (d.count ≡ length s → ⊥) → Number.Malformed ≡ whole_of s
+  pub whole_part : (d.count ≡ length s → ⊥) → None ≡ whole_of s
   unfolding whole_of
   whole_part other = simp (ne_eqb (digits_in 5 s) (length s) (λ e. other (count ∙ e))) (no (ltb 0 (digits_in 5 s)))
     where
-      no : (b : Bool) → Number.Malformed ≡ cond (b && false) (Number.Whole (value_from 0 (take (digits_in 5 s) s))) Number.Malformed
+      no : (b : Bool) → None ≡ cond (b && false) (Some (value_from 0 (take (digits_in 5 s) s))) None
       no true = refl
       no false = refl
 
-  pub quarters_none : d.count ≡ 0 → Number.Malformed ≡ quarters_of s
+  pub quarters_none : d.count ≡ 0 → None ≡ quarters_of s
   unfolding quarters_of
   quarters_none none = simp (le-ltb 0 (digits_in 5 s) (omega (arith, count)))
 
   -- The part behind the digits, as the code lends it.
-  pub quarters_some : (f : Number) → (d.count ≡ 0 → ⊥) → f ≡ fraction_of (take (length s - d.count) (drop d.count s)) → quarters_with d.value f ≡ quarters_of s
+  pub quarters_some : (f : Option ℕ) → (d.count ≡ 0 → ⊥) → f ≡ fraction_of (take (length s - d.count) (drop d.count s)) → quarters_with d.value f ≡ quarters_of s
   unfolding quarters_of
   quarters_some f some is =
       let behind : take (length s - d.count) (drop d.count s) ≡ drop (digits_in 5 s) s =
       take_all (length s - d.count) (drop d.count s) (simp length-drop (omega arith)) ∙ ap (λ k. drop k s) count in
       simp (lt-ltb 0 (digits_in 5 s) (omega (arith, count, some)), ← value) (ap (quarters_with d.value) (is ∙ ap fraction_of behind))
 
-pub fraction_small : (s : List ℕ) (q : ℕ) → fraction_of s ≡ Number.Whole q → q ≤ 3
+pub fraction_small : (s : List ℕ) (q : ℕ) → fraction_of s ≡ Some q → q ≤ 3
 unfolding fraction_of
 fraction_small s q e =
     go (eqb (length s) 0) (same_text s (ascii ".25")) (same_text s (ascii ".5")) (same_text s (ascii ".75")) e
   where
     go : (a b c d : Bool)
-        → cond a (Number.Whole 0) (cond b (Number.Whole 1) (cond c (Number.Whole 2) (cond d (Number.Whole 3) Number.Malformed))) ≡ Number.Whole q
+        → cond a (Some 0) (cond b (Some 1) (cond c (Some 2) (cond d (Some 3) None))) ≡ Some q
         → q ≤ 3
     go true b c d e = let is : 0 ≡ q = cc in omega arith
     go false true c d e = let is : 1 ≡ q = cc in omega arith

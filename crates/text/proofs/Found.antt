@@ -6,11 +6,13 @@ use mathlib.Core.List.{List, [], ◌∷◌, ◌++◌}
 use mathlib.Core.Bool.{Bool, true, false, cond, true≢false}
 use lib.Dec.{eqb}
 use borrow.Author.Tests.{eq-eqb, eqb-true}
+use Rattle.std.specs.Prelude.{Err}
 use Rattle.words.specs.Codes.{◌when◌}
 use Rattle.wire.proofs.Answers.{refusal_code}
 use Rattle.text.specs.declared.findings.Fault.{Fault}
 use Rattle.text.specs.declared.findings.Finding.{Finding}
-use Rattle.text.specs.Findings.{told_fault, nothing, whole, first_found}
+use Rattle.text.specs.declared.findings.Refusal.{Refusal}
+use Rattle.text.specs.Findings.{told_fault, nothing, whole, first_found, translated_of}
 
 pub fault_code : (f : Fault) → eqb (told_fault f).code 0 ≡ false
 fault_code Fault.UnknownName = refl
@@ -18,6 +20,10 @@ fault_code Fault.WrongCount = refl
 fault_code Fault.Malformed = refl
 fault_code Fault.Unsayable = refl
 fault_code (Fault.Wire refusal) = refusal_code refusal
+
+pub refused_code : (r : Refusal) → eqb (translated_of (Err r)).found.told.code 0 ≡ false
+refused_code Refusal.TooLong = refl
+refused_code (Refusal.BadLine number fault) = fault_code fault
 
 pub found_append : (fs gs : List Finding) → first_found (fs ++ gs) ≡ cond (eqb (first_found fs).told.code 0) (first_found gs) (first_found fs)
 unfolding first_found

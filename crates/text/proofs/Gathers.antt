@@ -22,9 +22,6 @@ use Rattle.wire.specs.Write.{command_bytes, list_bytes, room_after as command_ro
 use Rattle.wire.proofs.Writes.{allowed}
 use Rattle.text.specs.declared.findings.Fault.{Fault}
 use Rattle.text.specs.declared.findings.Finding.{Finding}
-use Rattle.text.specs.declared.findings.Translated.{Translated}
-use Rattle.text.specs.declared.line.Line.{Line}
-use Rattle.text.specs.declared.assembling.Step.{Step}
 use Rattle.text.specs.Split.{lines_of}
 use Rattle.text.specs.Line.{line_of, answer_line}
 use Rattle.text.specs.Findings.{no_room, finding, nothing, whole, first_found, told_fault, Outcome, translated_of}
@@ -32,7 +29,9 @@ use Rattle.text.specs.Assemble.{commands_in, bytes_in, line_findings, bad_line, 
 use Rattle.text.specs.Steps.{front_of, Part, part_of, part_for, Gathered}
 use Rattle.text.proofs.Allowed.{line_fine, listed_one}
 use Rattle.text.proofs.Splitting.{lines_at, line_within}
-use Rattle.text.proofs.Found.{fault_code, found_append, Silent, found_silent, whole_silent}
+use Rattle.text.proofs.Found.{refused_code, fault_code, found_append, Silent, found_silent, whole_silent}
+use Rattle.std.specs.Prelude.{Some, None, Result, Ok, Err}
+use Rattle.text.specs.declared.findings.Refusal.{Refusal}
 
 -- The bytes of commands and of more behind them.
 pub listed_append : (xs ys : List Command) → list_bytes (xs ++ ys) ≡ list_bytes xs ++ list_bytes ys
@@ -53,14 +52,14 @@ no_bytes = refl
 abbrev adds : Answer → Part
 adds a = record { told = a.told; bytes = length (list_bytes a.taken) }
 
-pub adds_none : (s : List ℕ) → answer_line Line.Blank ≡ line_of s → part_of (Step.Gives 0) ≡ part_for s
+pub adds_none : (s : List ℕ) → answer_line (Ok None) ≡ line_of s → part_of (Ok 0) ≡ part_for s
 unfolding list_bytes
 adds_none s e = ap adds e
 
-pub adds_one : (s : List ℕ) (c : Command) (n : ℕ) → n ≡ length (command_bytes c) → answer_line (Line.Typed c) ≡ line_of s → part_of (Step.Gives n) ≡ part_for s
+pub adds_one : (s : List ℕ) (c : Command) (n : ℕ) → n ≡ length (command_bytes c) → answer_line (Ok (Some c)) ≡ line_of s → part_of (Ok n) ≡ part_for s
 adds_one s c n long e = rw (long, ← listed_one c) (ap adds e)
 
-pub adds_fault : (s : List ℕ) (f : Fault) → answer_line (Line.Bad f) ≡ line_of s → part_of (Step.Bad f) ≡ part_for s
+pub adds_fault : (s : List ℕ) (f : Fault) → answer_line (Err f) ≡ line_of s → part_of (Err f) ≡ part_for s
 unfolding list_bytes
 adds_fault s f e = ap adds e
 
@@ -88,7 +87,7 @@ module _ (s : List ℕ) (at : ℕ) (room : List ℕ) where
   pub leaves_past : length room < at → room ≡ stored_at (list_bytes (line_of s).taken) at room
   leaves_past h = (no_store (list_bytes (line_of s).taken) at room (omega arith)).1
 
-  pub leaves_one : (c : Command) (part : List ℕ) → answer_line (Line.Typed c) ≡ line_of s → at ≤ length room
+  pub leaves_one : (c : Command) (part : List ℕ) → answer_line (Ok (Some c)) ≡ line_of s → at ≤ length room
       → part ≡ command_room c (take (length room - at) (drop at room))
       → put_mid at (length room - at) room part ≡ stored_at (list_bytes (line_of s).taken) at room
   leaves_one c part e within put =
@@ -99,21 +98,21 @@ module _ (s : List ℕ) (at : ℕ) (room : List ℕ) where
 
 -- The judgement on a text, from what is known at each of its ends.
 module _ (text : List ℕ) where
-  pub text_long : 32768 < length text → translated_of Translated.TooLong ≡ judged_text text
+  pub text_long : 32768 < length text → translated_of (Err Refusal.TooLong) ≡ judged_text text
   unfolding judged_text first_found
   text_long h = rw (lt-ltb 32768 (length text) h)
 
   module _ (short : length text ≤ 32768) where
-    pub text_bad : (number : ℕ) (f : Fault) → bad_line text ≡ finding (told_fault f) number → translated_of (Translated.Bad number f) ≡ judged_text text
+    pub text_bad : (number : ℕ) (f : Fault) → bad_line text ≡ finding (told_fault f) number → translated_of (Err (Refusal.BadLine number f)) ≡ judged_text text
     unfolding judged_text first_found
     text_bad number f bad = rw (le-ltb 32768 (length text) short, bad, fault_code f, fault_code f)
 
     module _ (good : bad_line text ≡ nothing) where
-      pub list_long : 4096 < length (bytes_in text) → translated_of Translated.TooLong ≡ judged_text text
+      pub list_long : 4096 < length (bytes_in text) → translated_of (Err Refusal.TooLong) ≡ judged_text text
       unfolding judged_text first_found
       list_long h = rw (le-ltb 32768 (length text) short, good, lt-ltb 4096 (length (bytes_in text)) h)
 
-      pub text_fine : length (bytes_in text) ≤ 4096 → translated_of (Translated.Done (length (bytes_in text))) ≡ judged_text text
+      pub text_fine : length (bytes_in text) ≤ 4096 → translated_of (Ok (length (bytes_in text))) ≡ judged_text text
       unfolding judged_text first_found
       text_fine h = rw (le-ltb 32768 (length text) short, good, le-ltb 4096 (length (bytes_in text)) h)
 
@@ -140,15 +139,15 @@ gathering_none text buffer =
     }
 
 -- A judgement that is no list leaves nothing to say of the buffer.
-no_list : (text buffer : List ℕ) (j : Translated) → translated_of j ≡ judged_text text → eqb (translated_of j).found.told.code 0 ≡ false → Gathered text buffer j
+no_list : (text buffer : List ℕ) (j : Result ℕ Refusal) → translated_of j ≡ judged_text text → eqb (translated_of j).found.told.code 0 ≡ false → Gathered text buffer j
 no_list text buffer j is refused =
     record {
       is = is;
       front = λ code h. absurd (let z : ◌≡◌ {A = Bool} true false = sym (eq-eqb _ 0 code) ∙ refused in let w : ◌≡◌ {A = ℕ} 0 1 = cc in omega arith);
     }
 
-pub gathered_long : (text buffer : List ℕ) → 32768 < length text → Gathered text buffer Translated.TooLong
-gathered_long text buffer h = no_list text buffer Translated.TooLong (text_long text h) refl
+pub gathered_long : (text buffer : List ℕ) → 32768 < length text → Gathered text buffer (Err Refusal.TooLong)
+gathered_long text buffer h = no_list text buffer (Err Refusal.TooLong) (text_long text h) refl
 
 module _ (text buffer₀ buffer : List ℕ) (at number bytes : ℕ) (gathering : Gathering text buffer₀ buffer at number bytes) where
   module _ (more : at < length text) (line : List ℕ) (is_line : line ≡ front_of 10 (take (length text - at) (drop at text)))
@@ -173,14 +172,14 @@ module _ (text buffer₀ buffer : List ℕ) (at number bytes : ℕ) (gathering :
     bytes_here : bytes_in (drop at text) ≡ here ++ bytes_in later
     bytes_here = ap (λ ls. list_bytes (commands_in ls)) next ∙ bytes_next line (lines_of later)
 
-    pub turn_bad : length text ≤ 32768 → (f : Fault) → part_of (Step.Bad f) ≡ part_for line → Gathered text buffer' (Translated.Bad (number + 1) f)
+    pub turn_bad : length text ≤ 32768 → (f : Fault) → part_of (Err f) ≡ part_for line → Gathered text buffer' (Err (Refusal.BadLine (number + 1) f))
     turn_bad short f e =
         let told : told_fault f ≡ (line_of line).told = ap (λ (p : Part). p.told) e in
         let late : eqb (line_of line).told.code 0 ≡ false = rw (ap (λ (t : Told). t.code) told) at (fault_code f) in
         let first : bad_line text ≡ finding (told_fault f) (number + 1) = bad_here ∙ rw (late, told) in
-        no_list text buffer' (Translated.Bad (number + 1) f) (text_bad text short (number + 1) f first) (fault_code f)
+        no_list text buffer' (Err (Refusal.BadLine (number + 1) f)) (text_bad text short (number + 1) f first) (fault_code f)
 
-    pub turn_gives : (n : ℕ) → part_of (Step.Gives n) ≡ part_for line → Gathering text buffer₀ buffer' (at + (length line + 1)) (number + 1) (bytes + n)
+    pub turn_gives : (n : ℕ) → part_of (Ok n) ≡ part_for line → Gathering text buffer₀ buffer' (at + (length line + 1)) (number + 1) (bytes + n)
     turn_gives n e =
         let code : (line_of line).told.code ≡ 0 = sym (ap (λ (p : Part). p.told.code) e) in
         let long : n ≡ length here = ap (λ (p : Part). p.bytes) e in
@@ -210,18 +209,18 @@ module _ (text buffer₀ buffer : List ℕ) (at number bytes : ℕ) (gathering :
     all : bytes ≡ length (bytes_in text)
     all = omega (arith, gathering.sum, ap length none)
 
-    pub ends_long : 4096 < bytes → Gathered text buffer Translated.TooLong
-    ends_long h = no_list text buffer Translated.TooLong (list_long text short good (omega (arith, all))) refl
+    pub ends_long : 4096 < bytes → Gathered text buffer (Err Refusal.TooLong)
+    ends_long h = no_list text buffer (Err Refusal.TooLong) (list_long text short good (omega (arith, all))) refl
 
-    pub ends_fine : bytes ≤ 4096 → Gathered text buffer (Translated.Done bytes)
+    pub ends_fine : bytes ≤ 4096 → Gathered text buffer (Ok bytes)
     ends_fine h =
         record {
-          is = ap (λ n. translated_of (Translated.Done n)) all ∙ text_fine text short good (omega (arith, all));
+          is = ap (λ n. translated_of (Ok n)) all ∙ text_fine text short good (omega (arith, all));
           front = λ code fits. sym (append-nil (take bytes buffer)) ∙ ap (λ l. take bytes buffer ++ l) (sym none) ∙ gathering.front fits;
         }
 
 -- A list that was judged fine is not too long.
-pub fine_short : (text : List ℕ) (bytes : ℕ) → translated_of (Translated.Done bytes) ≡ judged_text text → bytes ≤ 4096
+pub fine_short : (text : List ℕ) (bytes : ℕ) → translated_of (Ok bytes) ≡ judged_text text → bytes ≤ 4096
 unfolding judged_text
 fine_short text bytes is =
     let found : first_found (text_findings text) ≡ nothing = sym (ap (λ (p : Outcome). p.found) is) in
@@ -233,7 +232,7 @@ fine_short text bytes is =
 
 -- The assembler's ends: a judgement that refuses is its answer; a list that has room is copied, and one that has none is not.
 module _ (text room : List ℕ) where
-  abbrev Ends : Translated → List ℕ → Type 0
+  abbrev Ends : Result ℕ Refusal → List ℕ → Type 0
   Ends t after = (translated_of t ≡ assembled_as text room) × (after ≡ room_after text room)
 
   refused_as : (o : Outcome) → o ≡ judged_text text → eqb o.found.told.code 0 ≡ false → (o ≡ assembled_as text room) × (room ≡ room_after text room)
@@ -245,13 +244,13 @@ module _ (text room : List ℕ) where
       found_append (text_findings text) (whole (24 when not (has_room (bytes_in text) room)) ∷ []) ∙ rw late in
       rw (same, late) (is ∙ rw late, refl)
 
-  pub as_long : translated_of Translated.TooLong ≡ judged_text text → Ends Translated.TooLong room
-  as_long is = refused_as (translated_of Translated.TooLong) is refl
+  pub as_refused : (r : Refusal) → translated_of (Err r) ≡ judged_text text → Ends (Err r) room
+  as_refused r is = go r is (refused_code r)
+    where
+      go : (r : Refusal) → translated_of (Err r) ≡ judged_text text → eqb (translated_of (Err r)).found.told.code 0 ≡ false → Ends (Err r) room
+      go r is late = refused_as (translated_of (Err r)) is late
 
-  pub as_bad : (line : ℕ) (f : Fault) → translated_of (Translated.Bad line f) ≡ judged_text text → Ends (Translated.Bad line f) room
-  as_bad line f is = refused_as (translated_of (Translated.Bad line f)) is (fault_code f)
-
-  module _ (bytes : ℕ) (is : translated_of (Translated.Done bytes) ≡ judged_text text) where
+  module _ (bytes : ℕ) (is : translated_of (Ok bytes) ≡ judged_text text) where
     silent : first_found (text_findings text) ≡ nothing
     unfolding judged_text
     silent = sym (ap (λ (p : Outcome). p.found) is)
@@ -264,7 +263,7 @@ module _ (text room : List ℕ) where
         ≡ first_found (whole (24 when not (has_room (bytes_in text) room)) ∷ [])
     last = found_append (text_findings text) (whole (24 when not (has_room (bytes_in text) room)) ∷ []) ∙ rw silent
 
-    pub as_done : (after : List ℕ) → has_room (bytes_in text) room ≡ true → after ≡ written (bytes_in text) room → Ends (Translated.Done bytes) after
+    pub as_done : (after : List ℕ) → has_room (bytes_in text) room ≡ true → after ≡ written (bytes_in text) room → Ends (Ok bytes) after
     unfolding assembled_as room_after first_found
     as_done after has put = rw (last, has, all_bytes) (refl, put ∙ rw has)
 
@@ -273,9 +272,9 @@ module _ (text room : List ℕ) where
     as_full full = rw (last, full) (refl, refl)
 
 -- The list, copied from the front of a buffer that is as long as a list may be.
-module _ (text room buffer : List ℕ) (judgement : Translated) (gathered : Gathered text buffer judgement) (long : 4096 ≡ length buffer)
-    (bytes : ℕ) (fine : judgement ≡ Translated.Done bytes) where
-  pub judged_fine : Gathered text buffer (Translated.Done bytes)
+module _ (text room buffer : List ℕ) (judgement : Result ℕ Refusal) (gathered : Gathered text buffer judgement) (long : 4096 ≡ length buffer)
+    (bytes : ℕ) (fine : judgement ≡ Ok bytes) where
+  pub judged_fine : Gathered text buffer (Ok bytes)
   judged_fine = subst (λ j. Gathered text buffer j) fine gathered
 
   pub list_fits : bytes ≤ length buffer
@@ -288,7 +287,7 @@ module _ (text room buffer : List ℕ) (judgement : Translated) (gathered : Gath
   part_is = judged_fine.front refl list_fits
 
   pub copied : {has : Bool} {after : List ℕ} → has ≡ has_room (take bytes buffer) room → after ≡ written (take bytes buffer) room → has ≡ true
-      → Ends text room (Translated.Done bytes) after
+      → Ends text room (Ok bytes) after
   copied says put room_there = as_done text room bytes judged_fine.is _ (rw part_is at (sym says ∙ room_there)) (put ∙ ap (λ l. written l room) part_is)
 
   pub not_copied : {has : Bool} {after : List ℕ} → has ≡ has_room (take bytes buffer) room → after ≡ written (take bytes buffer) room → has ≡ false

@@ -16,9 +16,9 @@ use lib.Ieee.Bits.{of_bits-to_bits}
 use lib.Ieee.Fits.{down_pos, round-fits}
 use borrow.Author.Tests.{leb-true, ltb-true, ltb-false, eqb-true, eqb-false, ne_eqb}
 use Rattle.words.proofs.Tests.{both}
-use Rattle.text.specs.declared.goal.Quarters.{Quarters}
 use Rattle.text.specs.Goal.{single_of, goal_bits, said_below, quarters_in}
 use Rattle.text.specs.Steps.{guess_of}
+use Rattle.std.specs.Prelude.{Some, None}
 
 -- The single of so many quarters is exactly that number.
 pub single_exact : (q : ℕ) → q < 2 ^ 24 → HasValue (single_of q) false q 4
@@ -110,43 +110,43 @@ guess_small bits low = go (ltb bits 0x3e800000)
         (div-lt_iff_lt-mul (lt_of_lt_of_le (omega arith) most)).1 (omega (arith, mul-le-mul_right 4096 most))
 
 -- What is found, from the two facts that decide.
-said_below_lem : (n bits q : ℕ) → n ≤ 4096 → q < n → goal_bits q ≡ bits → said_below n bits ≡ Quarters.Said q
+said_below_lem : (n bits q : ℕ) → n ≤ 4096 → q < n → goal_bits q ≡ bits → said_below n bits ≡ Some q
 unfolding said_below
 said_below_lem zero bits q few h e = absurd (omega arith)
 said_below_lem (suc n) bits q few h e =
     go (eqb (goal_bits n) bits) refl (λ k. said_below_lem n bits q (omega arith) k e)
   where
-    go : (b : Bool) → eqb (goal_bits n) bits ≡ b → (q < n → said_below n bits ≡ Quarters.Said q)
-        → cond b (Quarters.Said n) (said_below n bits) ≡ Quarters.Said q
-    go true t rest = ap Quarters.Said (goal_once n q (omega arith) (omega arith) (eqb-true _ _ t ∙ sym e))
+    go : (b : Bool) → eqb (goal_bits n) bits ≡ b → (q < n → said_below n bits ≡ Some q)
+        → cond b (Some n) (said_below n bits) ≡ Some q
+    go true t rest = ap Some (goal_once n q (omega arith) (omega arith) (eqb-true _ _ t ∙ sym e))
     go false t rest = rest (other (eq-or-lt_of_le h))
       where
         other : (suc q ≡ suc n) ⊎ (suc q < suc n) → q < n
         other (inl s) = let same : q ≡ n = omega arith in absurd (eqb-false _ _ t (ap goal_bits (sym same) ∙ e))
         other (inr k) = omega arith
 
-unsaid_below : (n bits : ℕ) → ((q : ℕ) → q < n → goal_bits q ≡ bits → ⊥) → said_below n bits ≡ Quarters.Unsaid
+unsaid_below : (n bits : ℕ) → ((q : ℕ) → q < n → goal_bits q ≡ bits → ⊥) → said_below n bits ≡ None
 unfolding said_below
 unsaid_below zero bits none = refl
 unsaid_below (suc n) bits none =
     rw (ne_eqb _ _ (none n (omega arith))) (unsaid_below n bits (λ q h e. none q (omega arith) e))
 
-said_back : (n bits q : ℕ) → said_below n bits ≡ Quarters.Said q → (goal_bits q ≡ bits) × (q < n)
+said_back : (n bits q : ℕ) → said_below n bits ≡ Some q → (goal_bits q ≡ bits) × (q < n)
 unfolding said_below
 said_back zero bits q e = absurd (let z : ◌≡◌ {A = ℕ} 0 1 = cc in omega arith)
 said_back (suc n) bits q e = go (eqb (goal_bits n) bits) refl (λ k. said_back n bits q k) e
   where
-    go : (b : Bool) → eqb (goal_bits n) bits ≡ b → (said_below n bits ≡ Quarters.Said q → (goal_bits q ≡ bits) × (q < n))
-        → cond b (Quarters.Said n) (said_below n bits) ≡ Quarters.Said q → (goal_bits q ≡ bits) × (q < suc n)
+    go : (b : Bool) → eqb (goal_bits n) bits ≡ b → (said_below n bits ≡ Some q → (goal_bits q ≡ bits) × (q < n))
+        → cond b (Some n) (said_below n bits) ≡ Some q → (goal_bits q ≡ bits) × (q < suc n)
     go true t rest e = let same : n ≡ q = cc in (ap goal_bits (sym same) ∙ eqb-true _ _ t, omega arith)
     go false t rest e = let r = rest e in (r.0, omega (arith, r.1))
 
 -- Goals said in text are found again in their bits, and what is found has these bits.
-pub there_and_back : (q : ℕ) → q < 4096 → quarters_in (goal_bits q) ≡ Quarters.Said q
+pub there_and_back : (q : ℕ) → q < 4096 → quarters_in (goal_bits q) ≡ Some q
 unfolding quarters_in
 there_and_back q h = said_below_lem 4096 (goal_bits q) q (omega arith) h refl
 
-pub back_and_there : (bits q : ℕ) → quarters_in bits ≡ Quarters.Said q → (goal_bits q ≡ bits) × (q < 4096)
+pub back_and_there : (bits q : ℕ) → quarters_in bits ≡ Some q → (goal_bits q ≡ bits) × (q < 4096)
 unfolding quarters_in
 back_and_there bits q e = said_back 4096 bits q e
 
@@ -195,15 +195,15 @@ bits_small q small low =
     (goal_exact q small)
 
 -- The code's three ends.
-pub too_large : (bits : ℕ) → 0x447fffff < bits → Quarters.Unsaid ≡ quarters_in bits
+pub too_large : (bits : ℕ) → 0x447fffff < bits → None ≡ quarters_in bits
 unfolding quarters_in
 too_large bits h = sym (unsaid_below 4096 bits (λ q small e. omega (arith, bits_within q small)))
 
-pub guessed : (bits guess : ℕ) → guess ≡ guess_of bits → bits ≤ 0x447fffff → goal_bits guess ≡ bits → Quarters.Said guess ≡ quarters_in bits
+pub guessed : (bits guess : ℕ) → guess ≡ guess_of bits → bits ≤ 0x447fffff → goal_bits guess ≡ bits → Some guess ≡ quarters_in bits
 unfolding quarters_in
 guessed bits guess is low right = sym (said_below_lem 4096 bits guess (omega arith) (omega (arith, guess_small bits low)) right)
 
-pub not_guessed : (bits guess : ℕ) → guess ≡ guess_of bits → (goal_bits guess ≡ bits → ⊥) → Quarters.Unsaid ≡ quarters_in bits
+pub not_guessed : (bits guess : ℕ) → guess ≡ guess_of bits → (goal_bits guess ≡ bits → ⊥) → None ≡ quarters_in bits
 unfolding quarters_in
 not_guessed bits guess is wrong =
     sym (unsaid_below 4096 bits (λ q small e. wrong (ap goal_bits (is ∙ ap guess_of (sym e) ∙ guess_back q small) ∙ e)))

@@ -5,15 +5,16 @@ use mathlib.Core.Path.{◌≡◌, refl}
 use mathlib.Core.List.{List}
 use mathlib.Core.Bool.{Bool, true}
 use Rattle.words.proofs.Order.{InOrder, none_zero, in_order}
-use Rattle.text.specs.declared.names.Named.{Named}
 use Rattle.text.specs.Names.{form_named}
 use Rattle.text.specs.Line.{name_in, line_checks, typed_as}
+use Rattle.std.specs.Prelude.{Option, Some, None}
+use Rattle.wire.specs.declared.table.Form.{Form}
 
 -- A line, by its flag and words.
 pub line_order : (flag : Bool) (words : List (List ℕ)) → InOrder (line_checks (form_named (name_in words)) flag words) (typed_as flag words).told.code
 unfolding typed_as
 line_order flag words = in_order (line_checks (form_named (name_in words)) flag words) (codes (form_named (name_in words)))
   where
-    codes : (named : Named) → none_zero (line_checks named flag words) ≡ true
-    codes Named.Unknown = refl
-    codes (Named.Known form) = refl
+    codes : (named : Option Form) → none_zero (line_checks named flag words) ≡ true
+    codes None = refl
+    codes (Some form) = refl

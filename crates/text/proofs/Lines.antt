@@ -20,8 +20,6 @@ use Rattle.wire.specs.Kind.{kind_of}
 use Rattle.wire.specs.Judge.{plain, told_of, judged_by}
 use Rattle.wire.specs.Read.{Answer}
 use Rattle.wire.proofs.Answers.{refusal_code}
-use Rattle.text.specs.declared.names.Named.{Named}
-use Rattle.text.specs.declared.number.Number.{Number}
 use Rattle.wire.specs.Table.{row_of, arguments_of}
 use Rattle.text.specs.Line.{as_bits, goal_of, first_of, second_of}
 use Rattle.text.specs.Names.{form_named}
@@ -30,6 +28,7 @@ use Rattle.text.specs.Split.{space}
 use Rattle.text.specs.Steps.{run_of, count_of, up_to_three, front_of, behind_of, refused, judged_line, read_line, known_line, named_line, typed_line, line_by}
 use Rattle.text.proofs.Digits.{fraction_small}
 use Rattle.text.proofs.Marks.{run_within, up_to_three_lem}
+use Rattle.std.specs.Prelude.{Option, Some, None}
 
 -- A part that starts somewhere, as the code lends it.
 pub part_all : (s : List ℕ) (k n : ℕ) → k ≡ n → take (length s - k) (drop k s) ≡ drop n s
@@ -69,20 +68,20 @@ some_digits (suc most) read (b ∷ s) = go (leb 48 b) (leb b 57) refl refl (some
 pub five_digits : (s : List ℕ) → value_from 0 (take (digits_in 5 s) s) < 100000
 five_digits s = some_digits 5 0 s
 
-pub quarters_small : (s : List ℕ) (q : ℕ) → quarters_of s ≡ Number.Whole q → q < 400000
+pub quarters_small : (s : List ℕ) (q : ℕ) → quarters_of s ≡ Some q → q < 400000
 unfolding quarters_of
 quarters_small s q e = go (ltb 0 (digits_in 5 s)) (fraction_of (drop (digits_in 5 s) s)) refl e
   where
-    go : (b : Bool) (f : Number) → fraction_of (drop (digits_in 5 s) s) ≡ f
-        → cond b (quarters_with (value_from 0 (take (digits_in 5 s) s)) f) Number.Malformed ≡ Number.Whole q → q < 400000
-    go true (Number.Whole n) is e =
+    go : (b : Bool) (f : Option ℕ) → fraction_of (drop (digits_in 5 s) s) ≡ f
+        → cond b (quarters_with (value_from 0 (take (digits_in 5 s) s)) f) None ≡ Some q → q < 400000
+    go true (Some n) is e =
         let sum : value_from 0 (take (digits_in 5 s) s) * 4 + n ≡ q = cc in
         omega (arith, fraction_small (drop (digits_in 5 s) s) n is, five_digits s)
-    go true Number.Malformed is e = absurd (let z : ◌≡◌ {A = ℕ} 0 1 = cc in omega arith)
+    go true None is e = absurd (let z : ◌≡◌ {A = ℕ} 0 1 = cc in omega arith)
     go false f is e = absurd (let z : ◌≡◌ {A = ℕ} 0 1 = cc in omega arith)
 
 -- The two ends of a goal's reader.
-pub as_bits_lem : (s : List ℕ) (r : Number) → r ≡ quarters_of s → as_bits r ≡ goal_of s
+pub as_bits_lem : (s : List ℕ) (r : Option ℕ) → r ≡ quarters_of s → as_bits r ≡ goal_of s
 as_bits_lem s r e = ap as_bits e
 
 -- The judge's two ends.
@@ -123,7 +122,7 @@ module _ (form : Form) (flag : Bool) (body : List ℕ) (row : Row) (count argume
 
   module _ (right : count ≡ arguments) (behind part behind' part' : List ℕ) (is_behind : behind ≡ behind_of space body) (is_part : part ≡ front_of space behind)
       (is_behind' : behind' ≡ behind_of space behind) (is_part' : part' ≡ front_of space behind') where
-    pub right_count : (first second : Number) → first ≡ first_of row.layout part → second ≡ second_of row.layout part'
+    pub right_count : (first second : Option ℕ) → first ≡ first_of row.layout part → second ≡ second_of row.layout part'
         → read_line form flag first second ≡ known_line form flag body
     unfolding known_line
     right_count first second is_first is_second =
@@ -158,14 +157,14 @@ module _ (form : Form) (flag : Bool) (body : List ℕ) (row : Row) (name : ℕ) 
       wrong_count form flag body row (count_of space body) arguments is_row refl is_arguments
       (λ (e : count_of space body ≡ arguments). h (eqb-true spaces arguments (by_spaces ∙ eq-eqb (count_of space body) arguments e)))
 
-  pub right_spaces : spaces ≡ arguments → (first second : Number) → first ≡ first_of row.layout one → second ≡ second_of row.layout two
+  pub right_spaces : spaces ≡ arguments → (first second : Option ℕ) → first ≡ first_of row.layout one → second ≡ second_of row.layout two
       → read_line form flag first second ≡ known_line form flag body
   right_spaces right =
       right_count form flag body row (count_of space body) arguments is_row refl is_arguments
       (eqb-true (count_of space body) arguments (sym by_spaces ∙ eq-eqb spaces arguments right)) rest one others two rest_behind is_one others_behind is_two
 
 -- A line behind its `+`.
-pub by_name : (flag : Bool) (body part : List ℕ) (n : Named) → part ≡ front_of space body → n ≡ form_named part → named_line n flag body ≡ typed_line flag body
+pub by_name : (flag : Bool) (body part : List ℕ) (n : Option Form) → part ≡ front_of space body → n ≡ form_named part → named_line n flag body ≡ typed_line flag body
 unfolding typed_line
 by_name flag body part n is_part is = ap (λ m. named_line m flag body) (is ∙ ap form_named is_part)
 

@@ -17,12 +17,13 @@ use Rattle.words.proofs.Front.{Bytes}
 use Rattle.wire.specs.declared.table.Form.{Form}
 use Rattle.std.specs.Prelude.{Option, Some, None}
 use Rattle.wire.specs.declared.kinds.Command.{Command}
-use Rattle.wire.specs.declared.judging.Refusal.{Refusal}
+use Rattle.wire.specs.declared.judging.Refusal.{Refusal as WireRefusal}
 use Rattle.wire.specs.declared.judging.Told.{Told}
 use Rattle.std.specs.Prelude.{Ok, Err}
 use Rattle.wire.specs.Table.{rule_of}
 use Rattle.wire.specs.Read.{Answer, answer_of, answer_for, opcode_of, flag_of, length_of, third_word, decode_checks, read_checks, read_code, read_of, said_parts, said, span_of}
 use Rattle.wire.specs.Write.{command_bytes}
+use Rattle.wire.specs.Judge.{plain}
 use Rattle.wire.proofs.Answers.{refusal_code, reaches}
 use Rattle.wire.proofs.Local.{reached}
 use Rattle.wire.proofs.RoundTrip.{read_held, written_back}
@@ -32,14 +33,13 @@ use Rattle.walk.proofs.Rests.{behind, rests_none, rests_more}
 use Rattle.walk.proofs.Turns.{from_place, command_at}
 use Rattle.text.specs.declared.findings.Fault.{Fault}
 use Rattle.text.specs.declared.findings.Finding.{Finding}
-use Rattle.text.specs.declared.findings.Translated.{Translated}
-use Rattle.text.specs.declared.printing.Offer.{Offer}
 use Rattle.text.specs.Split.{line_feed}
 use Rattle.text.specs.Findings.{no_room, finding, nothing, whole, first_found, told_fault, Outcome, outcome, outcome_for, translated_of}
 use Rattle.text.specs.Lister.{can_say, line_text, list_text, text_of, list_checks, list_told, command_findings, bad_command, raw_findings, listed_as, listed_room}
 use Rattle.text.specs.ListSteps.{ended_line, offer_of, offered_at, judged_list, Lined}
 use Rattle.text.proofs.Found.{fault_code, found_append}
 use Rattle.text.proofs.Putting.{Puts, line_short}
+use Rattle.text.specs.declared.findings.Refusal.{Refusal}
 
 -- No fault has code 0.
 no_fault : (f : Fault) → (told_fault f).code ≡ 0 → ⊥
@@ -70,7 +70,7 @@ module _ (s : List ℕ) where
   offered code is = rw is
 
   -- What the code makes of a reading.
-  pub offer_refused : (r : Refusal) → answer_of (Err r) ≡ read_of s → offer_of (Offer.Bad (Fault.Wire r)) ≡ offered_at s
+  pub offer_refused : (r : WireRefusal) → answer_of (Err r) ≡ read_of s → offer_of (Err (Fault.Wire r)) ≡ offered_at s
   unfolding read_of
   offer_refused r e =
       let code : (told_fault (Fault.Wire r)).code ≡ read_code s = ap (λ (a : Answer). a.told.code) e in
@@ -95,10 +95,10 @@ module _ (s : List ℕ) where
         ∙ ap (λ n. cond (eqb n 0) (cond (not (can_say (said s))) 33 0) n) read_none
         ∙ ap (λ t. cond (not t) 33 0) (ap can_say (sym is_said) ∙ sym is)
 
-    pub offer_sayable : true ≡ can_say c → offer_of (Offer.Sayable c) ≡ offered_at s
+    pub offer_sayable : true ≡ can_say c → offer_of (Ok c) ≡ offered_at s
     offer_sayable is = ap (answer_for 0 (said_parts s)) is_said ∙ sym (offered 0 (goal_code true is))
 
-    pub offer_unsayable : false ≡ can_say c → offer_of (Offer.Bad Fault.Unsayable) ≡ offered_at s
+    pub offer_unsayable : false ≡ can_say c → offer_of (Err Fault.Unsayable) ≡ offered_at s
     offer_unsayable is = sym (offered 33 (goal_code false is))
 
   -- Nothing is told of it exactly where it passes 1 to 10 and its goals can be said.
@@ -116,11 +116,11 @@ module _ (s : List ℕ) where
       go false b read says e = absurd (eqb-false (read_code s) 0 read e)
 
   -- What an offer says of the command at the front.
-  told_bad : (f : Fault) → offer_of (Offer.Bad f) ≡ offered_at s → told_fault f ≡ list_told s
+  told_bad : (f : Fault) → offer_of (Err f) ≡ offered_at s → told_fault f ≡ list_told s
   unfolding offered_at
   told_bad f e = ap (λ (a : Answer). a.told) e
 
-  module _ (c : Command) (e : offer_of (Offer.Sayable c) ≡ offered_at s) where
+  module _ (c : Command) (e : offer_of (Ok c) ≡ offered_at s) where
     told_none : (list_told s).code ≡ 0
     unfolding offered_at
     told_none = sym (ap (λ (a : Answer). a.told.code) e)
@@ -179,16 +179,16 @@ none_found number = ap (λ rs. first_found (command_findings number rs)) rests_n
 
 -- The judgement on a list by itself, in its three cases.
 module _ (raw : List ℕ) where
-  judged_long : 4096 < length raw → translated_of Translated.TooLong ≡ judged_list raw
+  judged_long : 4096 < length raw → translated_of (Err Refusal.TooLong) ≡ judged_list raw
   unfolding judged_list first_found
   judged_long long = rw (lt-ltb 4096 (length raw) long)
 
   module _ (short : length raw ≤ 4096) where
-    judged_bad : (number : ℕ) (f : Fault) → bad_command raw ≡ finding (told_fault f) number → translated_of (Translated.Bad number f) ≡ judged_list raw
+    judged_bad : (number : ℕ) (f : Fault) → bad_command raw ≡ finding (told_fault f) number → translated_of (Err (Refusal.BadLine number f)) ≡ judged_list raw
     unfolding judged_list first_found
     judged_bad number f here = rw (le-ltb 4096 (length raw) short, here, fault_code f, fault_code f)
 
-    judged_fine : (end : ℕ) → bad_command raw ≡ nothing → end ≡ length (text_of raw) → translated_of (Translated.Done end) ≡ judged_list raw
+    judged_fine : (end : ℕ) → bad_command raw ≡ nothing → end ≡ length (text_of raw) → translated_of (Ok end) ≡ judged_list raw
     unfolding judged_list first_found
     judged_fine end fine long = rw (le-ltb 4096 (length raw) short, fine, long)
 
@@ -217,7 +217,7 @@ module _ (raw room₀ room : List ℕ) (at number end : ℕ) (lining : Lining ra
     unfolding command_findings first_found
     bad_here = sym lining.bad ∙ ap (λ rs. first_found (command_findings (number + 1) rs)) (rests_more rest left)
 
-    pub turn_bad : (f : Fault) → offer_of (Offer.Bad f) ≡ offered_at (take (length raw - at) rest) → Lined raw room (Translated.Bad (number + 1) f)
+    pub turn_bad : (f : Fault) → offer_of (Err f) ≡ offered_at (take (length raw - at) rest) → Lined raw room (Err (Refusal.BadLine (number + 1) f))
     turn_bad f e =
         let told : told_fault f ≡ list_told rest = told_bad rest f (e ∙ ap offered_at (from_place raw at)) in
         let late : eqb (list_told rest).code 0 ≡ false = ap (λ (t : Told). eqb t.code 0) (sym told) ∙ fault_code f in
@@ -228,8 +228,8 @@ module _ (raw room₀ room : List ℕ) (at number end : ℕ) (lining : Lining ra
           front = λ z. absurd (no_fault f z);
         }
 
-    module _ (bytes : Bytes raw) (c : Command) (e : offer_of (Offer.Sayable c) ≡ offered_at (take (length raw - at) rest)) where
-      offer : offer_of (Offer.Sayable c) ≡ offered_at rest
+    module _ (bytes : Bytes raw) (c : Command) (e : offer_of (Ok c) ≡ offered_at (take (length raw - at) rest)) where
+      offer : offer_of (Ok c) ≡ offered_at rest
       offer = e ∙ ap offered_at (from_place raw at)
 
       line_within : length (ended_line c) ≤ 2 * span_of rest
@@ -260,7 +260,7 @@ module _ (raw room₀ room : List ℕ) (at number end : ℕ) (lining : Lining ra
                 ∙ lining.text;
           }
 
-  pub lining_ends : 8192 ≤ length room₀ → length raw ≤ at → Lined raw room (Translated.Done end)
+  pub lining_ends : 8192 ≤ length room₀ → length raw ≤ at → Lined raw room (Ok end)
   lining_ends large last =
       let none : drop at raw ≡ [] = drop_of_length-le raw last in
       let text : take end room ≡ text_of raw =
@@ -271,7 +271,7 @@ module _ (raw room₀ room : List ℕ) (at number end : ℕ) (lining : Lining ra
       sym lining.bad ∙ ap (λ l. first_found (command_findings (number + 1) (rests l))) none ∙ none_found (number + 1) in
       record { is = judged_fine raw short end fine long; fits = omega (arith, lining.half, lining.within); front = λ z. text }
 
-pub lined_long : (raw room : List ℕ) → 4096 < length raw → Lined raw room Translated.TooLong
+pub lined_long : (raw room : List ℕ) → 4096 < length raw → Lined raw room (Err Refusal.TooLong)
 lined_long raw room long = record { is = judged_long raw long; fits = omega arith; front = λ z. absurd (omega arith) }
 
 -- The lister's ends: the judgement on the list by itself, and behind it 24.
@@ -297,6 +297,11 @@ module _ (raw room : List ℕ) where
       let same : listed_as raw room ≡ outcome f 0 = listed_from ∙ rw (← found, late, late) in
       (sym same, sym (ap room_by same ∙ rw late))
 
+  pub ends_bad : (r : Refusal) → translated_of (Err r) ≡ judged_list raw
+      → (translated_of (Err r) ≡ listed_as raw room) × (room ≡ listed_room raw room)
+  ends_bad Refusal.TooLong e = ends_refused (finding (plain 20) 0) e refl
+  ends_bad (Refusal.BadLine number fault) e = ends_refused (finding (told_fault fault) number) e (fault_code fault)
+
   module _ (bytes : ℕ) (e : outcome nothing bytes ≡ judged_list raw) where
     all_bytes : bytes ≡ length (text_of raw)
     unfolding judged_list
@@ -311,7 +316,7 @@ module _ (raw room : List ℕ) where
         listed_from ∙ rw (← found, ← is, ← all_bytes)
 
     pub ends_done : (after : List ℕ) → true ≡ has_room (text_of raw) room → after ≡ written (text_of raw) room
-        → (translated_of (Translated.Done bytes) ≡ listed_as raw room) × (after ≡ listed_room raw room)
+        → (translated_of (Ok bytes) ≡ listed_as raw room) × (after ≡ listed_room raw room)
     unfolding listed_room first_found
     ends_done after has put =
         let same : listed_as raw room ≡ outcome nothing bytes = by_room true has in

@@ -18,7 +18,6 @@ use Rattle.wire.specs.Judge.{plain, part_checks}
 use Rattle.wire.specs.Read.{read_checks, said_parts, said}
 use Rattle.wire.proofs.Parameters.{SomeOut, Parameter, RangeRow, parameter, eight, range_parts, range_none, range_append, range_read}
 use Rattle.walk.specs.Walk.{rests}
-use Rattle.text.specs.declared.names.Named.{Named}
 use Rattle.text.specs.declared.findings.Finding.{Finding}
 use Rattle.text.specs.Split.{lines_of, words_of}
 use Rattle.text.specs.Names.{form_named}
@@ -26,17 +25,19 @@ use Rattle.text.specs.Line.{is_blank, flag_in, body_in, name_in, parts_in, line_
 use Rattle.text.specs.Findings.{nothing, whole, first_found}
 use Rattle.text.specs.Assemble.{bytes_in, line_findings, bad_line, assemble_findings, assembled_as}
 use Rattle.text.specs.Lister.{text_of, can_say, list_checks, list_told, command_findings, list_findings, listed_as}
+use Rattle.std.specs.Prelude.{Option, Some, None}
+use Rattle.wire.specs.declared.table.Form.{Form}
 
 -- Rows 30, 32 and 31 stand before row 8.
 module _ (flag : Bool) (words : List (List ℕ)) where
-  abbrev named_parts : Named → Parts
+  abbrev named_parts : Option Form → Parts
   named_parts named = parts_in (form_in named) words
 
-  range_named : (named : Named) → RangeRow (named_parts named) (line_checks named flag words)
-  range_named Named.Unknown = range_none (named_parts Named.Unknown) (line_checks Named.Unknown flag words) refl
-  range_named (Named.Known form) =
+  range_named : (named : Option Form) → RangeRow (named_parts named) (line_checks named flag words)
+  range_named None = range_none (named_parts None) (line_checks None flag words) refl
+  range_named (Some form) =
       let parts = parts_in form words in
-      let front = take 3 (line_checks (Named.Known form) flag words) in
+      let front = take 3 (line_checks (Some form) flag words) in
       range_append parts front (part_checks flag parts) (range_none parts front refl) (range_parts flag parts)
 
   -- The words of a line that is not blank.
@@ -52,11 +53,11 @@ module _ (flag : Bool) (words : List (List ℕ)) where
   unfolding typed_as
   typed_eight = go (form_named (name_in words))
     where
-      go : (named : Named) → (first_of (line_checks named flag words) ≡ 8) ↔ (NoneDue (take 3 (line_checks named flag words)) × SomeOut (named_parts named))
-      go (Named.Known form) =
-          let named = Named.Known form in
+      go : (named : Option Form) → (first_of (line_checks named flag words) ≡ 8) ↔ (NoneDue (take 3 (line_checks named flag words)) × SomeOut (named_parts named))
+      go (Some form) =
+          let named = Some form in
           eight (named_parts named) (line_checks named flag words) 3 (range_named named) refl (omega arith) refl
-      go Named.Unknown = (λ e. absurd (omega arith), λ d. absurd (false≢true (sym d.0.0)))
+      go None = (λ e. absurd (omega arith), λ d. absurd (false≢true (sym d.0.0)))
 
 -- The numbers as a line has them: what it says behind its `+`, by the form that its first word names.
 abbrev pub typed_parts : List ℕ → Parts

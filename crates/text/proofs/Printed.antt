@@ -17,7 +17,6 @@ use Rattle.wire.specs.Judge.{plain, judged_by, judge_code}
 use Rattle.wire.specs.Read.{Answer}
 use Rattle.wire.proofs.Layouts.{Within}
 use Rattle.wire.proofs.RoundTrip.{Held, held_within, held_made}
-use Rattle.text.specs.declared.number.Number.{Number}
 use Rattle.words.specs.Text.{ascii, decimal}
 use Rattle.wire.specs.Table.{row_of, name_of, arguments_of}
 use Rattle.wire.specs.Write.{list_bytes}
@@ -37,6 +36,7 @@ use Rattle.text.proofs.Saying.{Says, Sayable, CanSay}
 use Rattle.text.proofs.Splitting.{lines_next}
 use Rattle.text.proofs.Goals.{back_and_there}
 use Rattle.text.proofs.Decimal.{AllDigits, all_digits, whole_back, goal_back}
+use Rattle.std.specs.Prelude.{Some}
 
 -- A text with no mark in it, before a mark and behind one.
 module _ (mark : ℕ) where
@@ -136,10 +136,10 @@ name_plain Form.Wait = refl
 name_plain Form.Stop = refl
 name_plain Form.Clear = refl
 
-goal_read : (bits : ℕ) → Says bits → goal_of (said_text (quarters_in bits)) ≡ Number.Whole bits
+goal_read : (bits : ℕ) → Says bits → goal_of (said_text (quarters_in bits)) ≡ Some bits
 goal_read bits says =
     let back = back_and_there bits says.quarters says.said in
-    rw says.said (ap as_bits (goal_back says.quarters (omega (arith, back.1))) ∙ ap Number.Whole back.0)
+    rw says.said (ap as_bits (goal_back says.quarters (omega (arith, back.1))) ∙ ap Some back.0)
 
 said_plain : (mark bits : ℕ) → mark < 46 → Says bits → count_of mark (said_text (quarters_in bits)) ≡ 0
 said_plain mark bits low says = rw says.said (goal_plain mark says.quarters low)
@@ -151,12 +151,12 @@ count_mark s = refl
 -- A body of a name and its arguments is read as these arguments.
 module _ (form : Form) (flag : Bool) (first second : ℕ) where
   known_as : (body a b : List ℕ) → count_of 32 body ≡ arguments_of (row_of form).layout → a ≡ front_of 32 (behind_of 32 body)
-      → b ≡ front_of 32 (behind_of 32 (behind_of 32 body)) → first_of (row_of form).layout a ≡ Number.Whole first → second_of (row_of form).layout b ≡ Number.Whole second
+      → b ≡ front_of 32 (behind_of 32 (behind_of 32 body)) → first_of (row_of form).layout a ≡ Some first → second_of (row_of form).layout b ≡ Some second
       → known_line form flag body ≡ judged_line form flag first second
   known_as body a b right is_a is_b e1 e2 =
       sym
       (right_count form flag body (row_of form) (count_of 32 body) (arguments_of (row_of form).layout) refl refl refl right (behind_of 32 body) a
-      (behind_of 32 (behind_of 32 body)) b refl is_a refl is_b (Number.Whole first) (Number.Whole second) (sym e1) (sym e2))
+      (behind_of 32 (behind_of 32 body)) b refl is_a refl is_b (Some first) (Some second) (sym e1) (sym e2))
 
   abbrev name : List ℕ
   name = name_of form
@@ -164,15 +164,15 @@ module _ (form : Form) (flag : Bool) (first second : ℕ) where
   count_one : (a : List ℕ) → count_of 32 a ≡ 0 → count_of 32 (name ++ 32 ∷ a) ≡ 1
   count_one a plain = omega (arith, count_append 32 name (32 ∷ a), count_mark a, name_plain form)
 
-  with_one : (a : List ℕ) → count_of 32 a ≡ 0 → arguments_of (row_of form).layout ≡ 1 → first_of (row_of form).layout a ≡ Number.Whole first
-      → ((b : List ℕ) → second_of (row_of form).layout b ≡ Number.Whole second) → known_line form flag (name ++ 32 ∷ a) ≡ judged_line form flag first second
+  with_one : (a : List ℕ) → count_of 32 a ≡ 0 → arguments_of (row_of form).layout ≡ 1 → first_of (row_of form).layout a ≡ Some first
+      → ((b : List ℕ) → second_of (row_of form).layout b ≡ Some second) → known_line form flag (name ++ 32 ∷ a) ≡ judged_line form flag first second
   with_one a plain one e1 e2 =
       let behind = behind_at 32 name a (name_plain form) in
       known_as (name ++ 32 ∷ a) a (front_of 32 (behind_of 32 (behind_of 32 (name ++ 32 ∷ a)))) (count_one a plain ∙ sym one)
       (sym (ap (front_of 32) behind ∙ front_all 32 a plain)) refl e1 (e2 _)
 
-  with_two : (a b : List ℕ) → count_of 32 a ≡ 0 → count_of 32 b ≡ 0 → arguments_of (row_of form).layout ≡ 2 → first_of (row_of form).layout a ≡ Number.Whole first
-      → second_of (row_of form).layout b ≡ Number.Whole second → known_line form flag (name ++ 32 ∷ (a ++ 32 ∷ b)) ≡ judged_line form flag first second
+  with_two : (a b : List ℕ) → count_of 32 a ≡ 0 → count_of 32 b ≡ 0 → arguments_of (row_of form).layout ≡ 2 → first_of (row_of form).layout a ≡ Some first
+      → second_of (row_of form).layout b ≡ Some second → known_line form flag (name ++ 32 ∷ (a ++ 32 ∷ b)) ≡ judged_line form flag first second
   with_two a b plain plain' two e1 e2 =
       let behind = behind_at 32 name (a ++ 32 ∷ b) (name_plain form) in
       let count : count_of 32 (name ++ 32 ∷ (a ++ 32 ∷ b)) ≡ 2 =
@@ -187,13 +187,13 @@ module _ (form : Form) (flag : Bool) (first second : ℕ) where
       let a = front_of 32 (behind_of 32 (name ++ [])) in
       let b = front_of 32 (behind_of 32 (behind_of 32 (name ++ []))) in
       known_as (name ++ []) a b (ap (count_of 32) body ∙ name_plain form ∙ sym (ap arguments_of e)) refl refl
-      (ap (λ l. first_of l a) e ∙ ap Number.Whole (sym within.0)) (ap (λ l. second_of l b) e ∙ ap Number.Whole (sym within.1))
+      (ap (λ l. first_of l a) e ∙ ap Some (sym within.0)) (ap (λ l. second_of l b) e ∙ ap Some (sym within.1))
   by_layout Layout.Byte e within says =
       with_one (decimal first) (number_plain 32 (omega arith) first) (ap arguments_of e)
-      (ap (λ l. first_of l (decimal first)) e ∙ whole_back first (omega arith)) (λ b. ap (λ l. second_of l b) e ∙ ap Number.Whole (sym within.1))
+      (ap (λ l. first_of l (decimal first)) e ∙ whole_back first (omega arith)) (λ b. ap (λ l. second_of l b) e ∙ ap Some (sym within.1))
   by_layout Layout.Half e within says =
       with_one (decimal first) (number_plain 32 (omega arith) first) (ap arguments_of e)
-      (ap (λ l. first_of l (decimal first)) e ∙ whole_back first (omega arith)) (λ b. ap (λ l. second_of l b) e ∙ ap Number.Whole (sym within.1))
+      (ap (λ l. first_of l (decimal first)) e ∙ whole_back first (omega arith)) (λ b. ap (λ l. second_of l b) e ∙ ap Some (sym within.1))
   by_layout Layout.Halves e within says =
       with_two (decimal first) (decimal second) (number_plain 32 (omega arith) first) (number_plain 32 (omega arith) second) (ap arguments_of e)
       (ap (λ l. first_of l (decimal first)) e ∙ whole_back first (omega arith)) (ap (λ l. second_of l (decimal second)) e ∙ whole_back second (omega arith))

@@ -19,12 +19,12 @@ use Rattle.wire.specs.Write.{command_bytes}
 use Rattle.wire.proofs.Layouts.{Within, arg_words, form_words}
 use Rattle.wire.proofs.Lengths.{length_command}
 use Rattle.wire.proofs.RoundTrip.{Held, held_within}
-use Rattle.text.specs.declared.goal.Quarters.{Quarters}
 use Rattle.text.specs.Split.{line_feed, space}
 use Rattle.text.specs.Goal.{quarters_in}
 use Rattle.text.specs.Lister.{fraction, goal_text, said_text, arguments_text, body_text, flagged, line_text}
 use Rattle.text.specs.ListSteps.{mark, ended_line}
 use Rattle.text.proofs.Goals.{back_and_there}
+use Rattle.std.specs.Prelude.{Option, Some, None}
 
 -- What a writer that has room answers and leaves, said as its two promises.
 abbrev pub Puts : List ℕ → ℕ → List ℕ → ℕ → List ℕ → Type 0
@@ -67,7 +67,7 @@ module _ (xs ys : List ℕ) (at : ℕ) (room : List ℕ) (fits : at + length (xs
 
 -- A goal after its space: a number and a fraction, or the space alone where there is no such goal in text.
 module _ (bits at : ℕ) (room : List ℕ) (fits : at + length (space ∷ said_text (quarters_in bits)) ≤ length room) where
-  module _ (q : ℕ) (is : quarters_in bits ≡ Quarters.Said q) where
+  module _ (q : ℕ) (is : quarters_in bits ≡ Some q) where
     goal_fits : at + length (space ∷ goal_text q) ≤ length room
     goal_fits = rw is at fits
 
@@ -79,7 +79,7 @@ module _ (bits at : ℕ) (room : List ℕ) (fits : at + length (space ∷ said_t
     goal_put p r mid after one two =
         rw is (puts_then_tries (space ∷ decimal (q / 4)) (fraction (q % 4)) at room goal_fits p mid r after one two)
 
-  pub no_goal_put : quarters_in bits ≡ Quarters.Unsaid → (r : ℕ) (after : List ℕ) → Tries (space ∷ []) at room r after
+  pub no_goal_put : quarters_in bits ≡ None → (r : ℕ) (after : List ℕ) → Tries (space ∷ []) at room r after
       → Puts (space ∷ said_text (quarters_in bits)) at room r after
   no_goal_put is r after one =
       let laid = laid_first (space ∷ []) at room after r (rw is at fits) one.0 one.1 in
@@ -161,11 +161,11 @@ fraction_short q = go (ltb q 1) (ltb q 2) (ltb q 3)
 said_short : (bits : ℕ) → length (said_text (quarters_in bits)) ≤ 7
 said_short bits = go (quarters_in bits) refl
   where
-    go : (q : Quarters) → quarters_in bits ≡ q → length (said_text q) ≤ 7
-    go (Quarters.Said q) is =
+    go : (q : Option ℕ) → quarters_in bits ≡ q → length (said_text q) ≤ 7
+    go (Some q) is =
         let small = (back_and_there bits q is).1 in
         omega (arith, length-append (decimal (q / 4)) (fraction (q % 4)), digits_below 10 3 (q / 4) (omega arith), fraction_short (q % 4))
-    go Quarters.Unsaid is = omega arith
+    go None is = omega arith
 
 -- With a mark, a name and a line feed, arguments are at most twice as long as the words of their layout.
 arguments_short : (l : Layout) (first second : ℕ) → Within l first second → 12 + length (arguments_text l first second) ≤ 8 * (arg_words l + 2)

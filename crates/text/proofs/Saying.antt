@@ -17,8 +17,6 @@ use Rattle.wire.specs.Table.{row_of}
 use Rattle.wire.specs.Kind.{parts_with, parts_of, kind_of}
 use Rattle.wire.specs.Judge.{bad_in, judged_by}
 use Rattle.wire.proofs.Goals.{goal_allowed, goal_allowed_lem}
-use Rattle.text.specs.declared.goal.Quarters.{Quarters}
-use Rattle.text.specs.declared.number.Number.{Number}
 use Rattle.text.specs.Number.{quarters_of}
 use Rattle.text.specs.Goal.{goal_bits, quarters_in}
 use Rattle.text.specs.Line.{as_bits, goal_of, first_of, second_of, line_of}
@@ -28,11 +26,12 @@ use Rattle.text.proofs.Lines.{quarters_small}
 use Rattle.text.proofs.Branches.{line_any}
 use Rattle.text.proofs.Allowed.{typed_in_range, typed_parts}
 use Rattle.text.proofs.Goals.{goal_exact, bits_small, there_and_back}
+use Rattle.std.specs.Prelude.{Option, Some, None}
 
 -- A goal that the text can say.
 pub record Says (bits : ℕ) : Type 0 where
   pub quarters : ℕ
-  pub said : quarters_in bits ≡ Quarters.Said quarters
+  pub said : quarters_in bits ≡ Some quarters
 
 -- What a layout's numbers are so that the text can say them.
 abbrev pub Sayable : Layout → ℕ → ℕ → Type 0
@@ -57,7 +56,7 @@ record Goal (bits : ℕ) : Type 0 where
   is : bits ≡ goal_bits quarters
 
 -- A goal that was typed as q quarters has the bits of exactly that number, in range or not.
-pub typed_exact : (s : List ℕ) (q : ℕ) → quarters_of s ≡ Number.Whole q → HasValue (of_bits binary32 (goal_bits q)) false q 4
+pub typed_exact : (s : List ℕ) (q : ℕ) → quarters_of s ≡ Some q → HasValue (of_bits binary32 (goal_bits q)) false q 4
 typed_exact s q typed = goal_exact q (omega (arith, quarters_small s q typed))
 
 -- Such bits are never those of minus zero.
@@ -97,16 +96,16 @@ Typed Layout.Half first second = Unit {0}
 Typed Layout.Halves first second = Unit {0}
 Typed Layout.Singles first second = Goal first × Goal second
 
-goal_typed : (s : List ℕ) (bits : ℕ) → goal_of s ≡ Number.Whole bits → Goal bits
+goal_typed : (s : List ℕ) (bits : ℕ) → goal_of s ≡ Some bits → Goal bits
 goal_typed s bits e = go (quarters_of s) refl e
   where
-    go : (n : Number) → quarters_of s ≡ n → as_bits n ≡ Number.Whole bits → Goal bits
-    go (Number.Whole q) is e =
+    go : (n : Option ℕ) → quarters_of s ≡ n → as_bits n ≡ Some bits → Goal bits
+    go (Some q) is e =
         let same : goal_bits q ≡ bits = cc in
         record { quarters = q; small = omega (arith, quarters_small s q is); is = sym same }
-    go Number.Malformed is e = absurd (let z : ◌≡◌ {A = ℕ} 0 1 = cc in omega arith)
+    go None is e = absurd (let z : ◌≡◌ {A = ℕ} 0 1 = cc in omega arith)
 
-both_typed : (l : Layout) (s t : List ℕ) (first second : ℕ) → first_of l s ≡ Number.Whole first → second_of l t ≡ Number.Whole second → Typed l first second
+both_typed : (l : Layout) (s t : List ℕ) (first second : ℕ) → first_of l s ≡ Some first → second_of l t ≡ Some second → Typed l first second
 both_typed Layout.Bare s t first second one two = tt
 both_typed Layout.Byte s t first second one two = tt
 both_typed Layout.Half s t first second one two = tt

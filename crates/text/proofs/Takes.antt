@@ -25,7 +25,6 @@ use Rattle.wire.proofs.Layouts.{Within}
 use Rattle.wire.proofs.RoundTrip.{held_within, read_held, read_allowed, written_back}
 use Rattle.walk.specs.Walk.{rests}
 use Rattle.walk.proofs.Rests.{behind, rests_none, rests_more}
-use Rattle.text.specs.declared.goal.Quarters.{Quarters}
 use Rattle.text.specs.declared.findings.Finding.{Finding}
 use Rattle.text.specs.Split.{space, lines_of}
 use Rattle.text.specs.Number.{is_digit}
@@ -39,6 +38,7 @@ use Rattle.text.proofs.Saying.{Says, Sayable, CanSay, AllSay}
 use Rattle.text.proofs.Printed.{Listed, one_line, lines_cons}
 use Rattle.text.proofs.Assembled.{AllRead, rests_listed, said_listed}
 use Rattle.text.proofs.Listing.{told_when, bytes_drop, read_spans}
+use Rattle.std.specs.Prelude.{Option, Some, None}
 
 -- The goals of each command can be said.
 abbrev pub AllSaid : List (List ℕ) → Type 0
@@ -102,9 +102,9 @@ takes raw room = (there, back)
 says_one : (bits : ℕ) → is_said (quarters_in bits) ≡ true → Says bits
 says_one bits e = go (quarters_in bits) refl e
   where
-    go : (q : Quarters) → quarters_in bits ≡ q → is_said q ≡ true → Says bits
-    go (Quarters.Said q) is e = record { quarters = q; said = is }
-    go Quarters.Unsaid is e = absurd (let z : ◌≡◌ {A = ℕ} 0 1 = cc in omega arith)
+    go : (q : Option ℕ) → quarters_in bits ≡ q → is_said q ≡ true → Says bits
+    go (Some q) is e = record { quarters = q; said = is }
+    go None is e = absurd (let z : ◌≡◌ {A = ℕ} 0 1 = cc in omega arith)
 
 says_all : (l : Layout) (first second : ℕ) → sayable l first second ≡ true → Sayable l first second
 says_all Layout.Bare first second e = tt
@@ -229,9 +229,9 @@ goal_leads bits = go (quarters_in bits) refl
     dot false false true = refl
     dot false false false = refl
 
-    go : (q : Quarters) → quarters_in bits ≡ q → NoLeadingZero (said_text q)
-    go (Quarters.Said q) is = leads (q / 4) (fraction (q % 4)) (omega (arith, (back_and_there bits q is).1)) (dot (ltb (q % 4) 1) (ltb (q % 4) 2) (ltb (q % 4) 3))
-    go Quarters.Unsaid is = λ e. refl
+    go : (q : Option ℕ) → quarters_in bits ≡ q → NoLeadingZero (said_text q)
+    go (Some q) is = leads (q / 4) (fraction (q % 4)) (omega (arith, (back_and_there bits q is).1)) (dot (ltb (q % 4) 1) (ltb (q % 4) 2) (ltb (q % 4) 3))
+    go None is = λ e. refl
 
 layout_leads : (l : Layout) (first second : ℕ) → Within l first second → NoneLeads (numbers_text l first second)
 layout_leads Layout.Bare first second within = tt

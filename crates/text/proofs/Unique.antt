@@ -7,7 +7,7 @@ use mathlib.Core.Bool.{false, cond}
 use lib.Dec.{eqb}
 use denote.Ref.{Bor}
 use Rattle.words.proofs.Laws.{one_to_one}
-use Rattle.wire.specs.declared.judging.Refusal.{Refusal}
+use Rattle.wire.specs.declared.judging.Refusal.{Refusal as WireRefusal}
 use Rattle.wire.specs.declared.judging.Told.{Told}
 use Rattle.wire.specs.Judge.{told_of}
 use Rattle.wire.specs.Read.{Answer}
@@ -15,12 +15,13 @@ use Rattle.wire.proofs.Unique.{refusal_of, refusal_back}
 use Rattle.walk.specs.Shown.{Placed}
 use Rattle.walk.proofs.Unique.{one_place}
 use Rattle.text.specs.declared.findings.Fault.{Fault}
-use Rattle.text.specs.declared.findings.Translated.{Translated}
-use Rattle.text.specs.declared.line.Line.{Line}
 use Rattle.text.specs.Findings.{told_fault, Outcome, translated_of}
 use Rattle.text.specs.Line.{answer_line}
 use Rattle.text.specs.Shown.{line_shown, line_start}
 use Rattle.text.proofs.Found.{fault_code}
+use Rattle.std.specs.Prelude.{Option, Some, None, Result, Ok, Err}
+use Rattle.wire.specs.declared.kinds.Command.{Command}
+use Rattle.text.specs.declared.findings.Refusal.{Refusal}
 
 -- The fault of which this is told.
 abbrev fault_of : Told → Fault
@@ -30,18 +31,18 @@ fault_of t =
     (cond (eqb t.code 31) Fault.Malformed
     (cond (eqb t.code 33) Fault.Unsayable (Fault.Wire (refusal_of t)))))
 
-wire_back : (r : Refusal) → fault_of (told_of r) ≡ Fault.Wire (refusal_of (told_of r))
-wire_back Refusal.TooFewBytes = refl
-wire_back Refusal.LengthOutOfBounds = refl
-wire_back Refusal.CutOff = refl
-wire_back Refusal.SumDiffers = refl
-wire_back Refusal.UnknownOpcode = refl
-wire_back Refusal.WrongLength = refl
-wire_back Refusal.PadNotZero = refl
-wire_back (Refusal.OutOfRange stray) = refl
-wire_back Refusal.FlagForbidden = refl
-wire_back Refusal.FlagMissing = refl
-wire_back Refusal.NoRoom = refl
+wire_back : (r : WireRefusal) → fault_of (told_of r) ≡ Fault.Wire (refusal_of (told_of r))
+wire_back WireRefusal.TooFewBytes = refl
+wire_back WireRefusal.LengthOutOfBounds = refl
+wire_back WireRefusal.CutOff = refl
+wire_back WireRefusal.SumDiffers = refl
+wire_back WireRefusal.UnknownOpcode = refl
+wire_back WireRefusal.WrongLength = refl
+wire_back WireRefusal.PadNotZero = refl
+wire_back (WireRefusal.OutOfRange stray) = refl
+wire_back WireRefusal.FlagForbidden = refl
+wire_back WireRefusal.FlagMissing = refl
+wire_back WireRefusal.NoRoom = refl
 
 pub fault_back : (f : Fault) → fault_of (told_fault f) ≡ f
 fault_back Fault.UnknownName = refl
@@ -62,44 +63,44 @@ not_whole Fault.Malformed = refl
 not_whole Fault.Unsayable = refl
 not_whole (Fault.Wire refusal) = of_wire refusal
   where
-    of_wire : (r : Refusal) → eqb (told_of r).code 20 ≡ false
-    of_wire Refusal.TooFewBytes = refl
-    of_wire Refusal.LengthOutOfBounds = refl
-    of_wire Refusal.CutOff = refl
-    of_wire Refusal.SumDiffers = refl
-    of_wire Refusal.UnknownOpcode = refl
-    of_wire Refusal.WrongLength = refl
-    of_wire Refusal.PadNotZero = refl
-    of_wire (Refusal.OutOfRange stray) = refl
-    of_wire Refusal.FlagForbidden = refl
-    of_wire Refusal.FlagMissing = refl
-    of_wire Refusal.NoRoom = refl
+    of_wire : (r : WireRefusal) → eqb (told_of r).code 20 ≡ false
+    of_wire WireRefusal.TooFewBytes = refl
+    of_wire WireRefusal.LengthOutOfBounds = refl
+    of_wire WireRefusal.CutOff = refl
+    of_wire WireRefusal.SumDiffers = refl
+    of_wire WireRefusal.UnknownOpcode = refl
+    of_wire WireRefusal.WrongLength = refl
+    of_wire WireRefusal.PadNotZero = refl
+    of_wire (WireRefusal.OutOfRange stray) = refl
+    of_wire WireRefusal.FlagForbidden = refl
+    of_wire WireRefusal.FlagMissing = refl
+    of_wire WireRefusal.NoRoom = refl
 
 -- Two answers of `assemble`, `list_text` or `judge_text` that tell the same, with the same number and count of bytes, are the same.
-pub one_translated : (a b : Translated) → translated_of a ≡ translated_of b → a ≡ b
+pub one_translated : (a b : Result ℕ Refusal) → translated_of a ≡ translated_of b → a ≡ b
 one_translated = one_to_one translated_of translation back
   where
-    translation : Outcome → Translated
+    translation : Outcome → Result ℕ Refusal
     translation o =
-        cond (eqb o.found.told.code 0) (Translated.Done o.bytes)
-        (cond (eqb o.found.told.code 20) Translated.TooLong (Translated.Bad o.found.number (fault_of o.found.told)))
+        cond (eqb o.found.told.code 0) (Ok o.bytes)
+        (cond (eqb o.found.told.code 20) (Err Refusal.TooLong) (Err (Refusal.BadLine o.found.number (fault_of o.found.told))))
 
-    back : (t : Translated) → translation (translated_of t) ≡ t
-    back (Translated.Done bytes) = refl
-    back Translated.TooLong = refl
-    back (Translated.Bad number fault) = rw (fault_code fault, not_whole fault, fault_back fault)
+    back : (t : Result ℕ Refusal) → translation (translated_of t) ≡ t
+    back (Ok bytes) = refl
+    back (Err Refusal.TooLong) = refl
+    back (Err (Refusal.BadLine number fault)) = rw (fault_code fault, not_whole fault, fault_back fault)
 
 -- Two answers of `line_of` that tell the same, with the same command, are the same.
-pub one_line : (a b : Line) → answer_line a ≡ answer_line b → a ≡ b
+pub one_line : (a b : Result (Option Command) Fault) → answer_line a ≡ answer_line b → a ≡ b
 one_line = one_to_one answer_line line_for back
   where
-    line_for : Answer → Line
-    line_for a = elim a.taken [ [] ↦ cond (eqb a.told.code 0) Line.Blank (Line.Bad (fault_of a.told)) | c ∷ cs ↦ Line.Typed c ]
+    line_for : Answer → Result (Option Command) Fault
+    line_for a = elim a.taken [ [] ↦ cond (eqb a.told.code 0) (Ok None) (Err (fault_of a.told)) | c ∷ cs ↦ Ok (Some c) ]
 
-    back : (l : Line) → line_for (answer_line l) ≡ l
-    back Line.Blank = refl
-    back (Line.Typed command) = refl
-    back (Line.Bad fault) = rw (fault_code fault, fault_back fault)
+    back : (l : Result (Option Command) Fault) → line_for (answer_line l) ≡ l
+    back (Ok None) = refl
+    back (Ok (Some command)) = refl
+    back (Err fault) = rw (fault_code fault, fault_back fault)
 
 -- Two answers of `line_shown` have the same bytes and the same place.
 abbrev pub Promise : Bor (List ℕ) → ℕ → Bor (List ℕ) → Type 0

@@ -1,12 +1,13 @@
 -- What is found wrong with a whole text or list: checks tried one after another, of which the first that finds something speaks.
 use Rattle.std.specs.Prelude.{ℕ, List, [], ◌∷◌, cond, eqb}
 use Rattle.words.specs.Codes.{Check}
-use Rattle.wire.specs.declared.judging.Refusal.{Refusal}
+use Rattle.wire.specs.declared.judging.Refusal.{Refusal as WireRefusal}
 use Rattle.wire.specs.declared.judging.Told.{Told}
 use Rattle.wire.specs.Judge.{plain, told_of}
 use Rattle.text.specs.declared.findings.Fault.{Fault}
 use Rattle.text.specs.declared.findings.Finding.{Finding}
-use Rattle.text.specs.declared.findings.Translated.{Translated}
+use Rattle.std.specs.Prelude.{Result, Ok, Err}
+use Rattle.text.specs.declared.findings.Refusal.{Refusal}
 
 -- What is told, and the number of the line or command that it is of.
 abbrev pub finding : Told → ℕ → Finding
@@ -34,8 +35,8 @@ told_fault Fault.Unsayable = plain 33
 told_fault (Fault.Wire refusal) = told_of refusal
 
 -- Too little room, which is of no line.
-abbrev pub no_room : Translated
-no_room = Translated.Bad 0 (Fault.Wire Refusal.NoRoom)
+abbrev pub no_room : Result ℕ Refusal
+no_room = Err (Refusal.BadLine 0 (Fault.Wire WireRefusal.NoRoom))
 
 -- What a call answers: what it found, and where that is nothing, how many bytes there are.
 pub record Outcome : Type 0 where
@@ -50,7 +51,7 @@ abbrev pub outcome_for : Finding → ℕ → Outcome
 outcome_for found bytes = outcome found (cond (eqb found.told.code 0) bytes 0)
 
 -- What the code answers.
-abbrev pub translated_of : Translated → Outcome
-translated_of (Translated.Done bytes) = outcome nothing bytes
-translated_of Translated.TooLong = outcome (finding (plain 20) 0) 0
-translated_of (Translated.Bad number fault) = outcome (finding (told_fault fault) number) 0
+abbrev pub translated_of : Result ℕ Refusal → Outcome
+translated_of (Ok bytes) = outcome nothing bytes
+translated_of (Err Refusal.TooLong) = outcome (finding (plain 20) 0) 0
+translated_of (Err (Refusal.BadLine number fault)) = outcome (finding (told_fault fault) number) 0

@@ -10,14 +10,13 @@ use Rattle.wire.specs.Table.{row_of, arguments_of}
 use Rattle.wire.specs.Kind.{parts_with, kind_of}
 use Rattle.wire.specs.Judge.{plain, told_for, part_checks}
 use Rattle.wire.specs.Read.{Answer}
-use Rattle.text.specs.declared.names.Named.{Named}
-use Rattle.text.specs.declared.number.Number.{Number}
-use Rattle.text.specs.declared.line.Line.{Line}
 use Rattle.text.specs.Split.{words_of}
 use Rattle.text.specs.Number.{whole_of, quarters_of, is_malformed, value_of}
 use Rattle.text.specs.Goal.{goal_bits}
 use Rattle.text.specs.Names.{form_named}
 use Rattle.text.specs.Findings.{told_fault}
+use Rattle.std.specs.Prelude.{Option, Some, None, Result, Ok, Err}
+use Rattle.text.specs.declared.findings.Fault.{Fault}
 
 -- "Empty lines and lines that begin with `#` carry no command". (35 is `#`, 43 is `+`.)
 abbrev pub is_blank : List ℕ → Bool
@@ -37,33 +36,33 @@ abbrev pub argument_in : List (List ℕ) → ℕ → List ℕ
 argument_in words k = get_or words k []
 
 -- Quarters as the bits of a single.
-abbrev pub as_bits : Number → Number
-as_bits (Number.Whole quarters) = Number.Whole (goal_bits quarters)
-as_bits Number.Malformed = Number.Malformed
+abbrev pub as_bits : Option ℕ → Option ℕ
+as_bits (Some quarters) = Some (goal_bits quarters)
+as_bits None = None
 
 -- A goal, by its bits.
-abbrev pub goal_of : List ℕ → Number
+abbrev pub goal_of : List ℕ → Option ℕ
 goal_of s = as_bits (quarters_of s)
 
 -- An argument by its layout: a whole number, or a goal; 0 where the layout has none.
-abbrev pub first_of : Layout → List ℕ → Number
-first_of Layout.Bare s = Number.Whole 0
+abbrev pub first_of : Layout → List ℕ → Option ℕ
+first_of Layout.Bare s = Some 0
 first_of Layout.Byte s = whole_of s
 first_of Layout.Half s = whole_of s
 first_of Layout.Halves s = whole_of s
 first_of Layout.Singles s = goal_of s
 
-abbrev pub second_of : Layout → List ℕ → Number
-second_of Layout.Bare s = Number.Whole 0
-second_of Layout.Byte s = Number.Whole 0
-second_of Layout.Half s = Number.Whole 0
+abbrev pub second_of : Layout → List ℕ → Option ℕ
+second_of Layout.Bare s = Some 0
+second_of Layout.Byte s = Some 0
+second_of Layout.Half s = Some 0
 second_of Layout.Halves s = whole_of s
 second_of Layout.Singles s = goal_of s
 
-abbrev pub first_in : Form → List (List ℕ) → Number
+abbrev pub first_in : Form → List (List ℕ) → Option ℕ
 first_in form words = first_of (row_of form).layout (argument_in words 1)
 
-abbrev pub second_in : Form → List (List ℕ) → Number
+abbrev pub second_in : Form → List (List ℕ) → Option ℕ
 second_in form words = second_of (row_of form).layout (argument_in words 2)
 
 -- The form and the numbers as they were typed, not cut to the width of their fields.
@@ -78,14 +77,14 @@ form_checks form flag words =
     ∷ part_checks flag (parts_in form words)
 
 -- Row 30 before them: the name is not in the table.
-abbrev pub line_checks : Named → Bool → List (List ℕ) → List Check
-line_checks Named.Unknown flag words = 30 when true ∷ []
-line_checks (Named.Known form) flag words = 30 when false ∷ form_checks form flag words
+abbrev pub line_checks : Option Form → Bool → List (List ℕ) → List Check
+line_checks None flag words = 30 when true ∷ []
+line_checks (Some form) flag words = 30 when false ∷ form_checks form flag words
 
 -- The form that was named. Where none was, row 30 has spoken and any form will do.
-abbrev pub form_in : Named → Form
-form_in (Named.Known form) = form
-form_in Named.Unknown = Form.TlmFlush
+abbrev pub form_in : Option Form → Form
+form_in (Some form) = form
+form_in None = Form.TlmFlush
 
 -- The command that the words of a line say.
 abbrev pub command_in : Form → Bool → List (List ℕ) → Command
@@ -107,8 +106,13 @@ typed_as flag words =
 unfoldable pub line_of : List ℕ → Answer
 line_of line = cond (is_blank line) (record { told = plain 0; taken = [] }) (typed_as (flag_in line) (words_of (body_in line)))
 
+-- What the code says of a command that was to be said, or of one that was to be read.
+abbrev pub answer_command : Result Command Fault → Answer
+answer_command (Ok command) = record { told = plain 0; taken = command ∷ [] }
+answer_command (Err fault) = record { told = told_fault fault; taken = [] }
+
 -- What the code says of a line.
-abbrev pub answer_line : Line → Answer
-answer_line Line.Blank = record { told = plain 0; taken = [] }
-answer_line (Line.Typed command) = record { told = plain 0; taken = command ∷ [] }
-answer_line (Line.Bad fault) = record { told = told_fault fault; taken = [] }
+abbrev pub answer_line : Result (Option Command) Fault → Answer
+answer_line (Ok None) = record { told = plain 0; taken = [] }
+answer_line (Ok (Some command)) = record { told = plain 0; taken = command ∷ [] }
+answer_line (Err fault) = record { told = told_fault fault; taken = [] }

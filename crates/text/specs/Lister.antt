@@ -11,11 +11,11 @@ use Rattle.wire.specs.Kind.{parts_of}
 use Rattle.wire.specs.Judge.{told_for}
 use Rattle.wire.specs.Read.{read_checks, said_parts, said}
 use Rattle.walk.specs.Walk.{rests}
-use Rattle.text.specs.declared.goal.Quarters.{Quarters}
 use Rattle.text.specs.declared.findings.Finding.{Finding}
 use Rattle.text.specs.Split.{line_feed, space}
 use Rattle.text.specs.Goal.{quarters_in}
 use Rattle.text.specs.Findings.{finding, whole, first_found, Outcome, outcome_for}
+use Rattle.std.specs.Prelude.{Option, Some, None}
 
 -- The end of a goal that is so many quarters above a whole number.
 abbrev pub fraction : ℕ → List ℕ
@@ -25,9 +25,9 @@ fraction quarters = cond (ltb quarters 1) [] (cond (ltb quarters 2) (ascii ".25"
 abbrev pub goal_text : ℕ → List ℕ
 goal_text q = decimal (q / 4) ++ fraction (q % 4)
 
-abbrev pub said_text : Quarters → List ℕ
-said_text (Quarters.Said q) = goal_text q
-said_text Quarters.Unsaid = []
+abbrev pub said_text : Option ℕ → List ℕ
+said_text (Some q) = goal_text q
+said_text None = []
 
 -- The arguments, each after one space.
 abbrev pub arguments_text : Layout → ℕ → ℕ → List ℕ
@@ -61,9 +61,9 @@ list_text (c ∷ cs) = line_text c ++ line_feed ∷ list_text cs
 abbrev pub text_of : List ℕ → List ℕ
 text_of raw = list_text (map said (rests raw))
 
-abbrev pub is_said : Quarters → Bool
-is_said (Quarters.Said q) = true
-is_said Quarters.Unsaid = false
+abbrev pub is_said : Option ℕ → Bool
+is_said (Some q) = true
+is_said None = false
 
 -- Can text say these arguments? Whole numbers always; goals where each is a number of quarters. So minus zero cannot be said.
 abbrev pub sayable : Layout → ℕ → ℕ → Bool

@@ -8,17 +8,16 @@ use Rattle.wire.specs.Kind.{kind_of}
 use Rattle.wire.specs.Judge.{plain, judged_by}
 use Rattle.wire.specs.Read.{Answer}
 use Rattle.wire.specs.Write.{list_bytes}
-use Rattle.text.specs.declared.names.Named.{Named}
 use Rattle.text.specs.declared.number.Digits.{Digits}
-use Rattle.text.specs.declared.number.Number.{Number}
-use Rattle.text.specs.declared.findings.Translated.{Translated}
-use Rattle.text.specs.declared.assembling.Step.{Step}
 use Rattle.text.specs.Split.{space}
 use Rattle.text.specs.Number.{digits_of}
 use Rattle.text.specs.Names.{form_named}
 use Rattle.text.specs.Line.{first_of, second_of, line_of}
 use Rattle.text.specs.Findings.{told_fault, translated_of}
 use Rattle.text.specs.Assemble.{bytes_in, judged_text}
+use Rattle.std.specs.Prelude.{Option, Some, None, Result, Ok, Err}
+use Rattle.text.specs.declared.findings.Fault.{Fault}
+use Rattle.text.specs.declared.findings.Refusal.{Refusal}
 
 -- How many bytes stand before the first mark: all where there is none.
 unfoldable pub run_of : ℕ → List ℕ → ℕ
@@ -61,10 +60,10 @@ judged_line form flag first second =
     record { told = told; taken = cond (eqb told.code 0) (record { flag = flag; kind = kind_of form first second } ∷ []) [] }
 
 -- Code 31.
-abbrev pub read_line : Form → Bool → Number → Number → Answer
-read_line form flag (Number.Whole first) (Number.Whole second) = judged_line form flag first second
-read_line form flag (Number.Whole first) Number.Malformed = refused 31
-read_line form flag Number.Malformed second = refused 31
+abbrev pub read_line : Form → Bool → Option ℕ → Option ℕ → Answer
+read_line form flag (Some first) (Some second) = judged_line form flag first second
+read_line form flag (Some first) None = refused 31
+read_line form flag None second = refused 31
 
 -- Code 32.
 unfoldable pub known_line : Form → Bool → List ℕ → Answer
@@ -76,9 +75,9 @@ known_line form flag body =
     (refused 32)
 
 -- Code 30.
-abbrev pub named_line : Named → Bool → List ℕ → Answer
-named_line (Named.Known form) flag body = known_line form flag body
-named_line Named.Unknown flag body = refused 30
+abbrev pub named_line : Option Form → Bool → List ℕ → Answer
+named_line (Some form) flag body = known_line form flag body
+named_line None flag body = refused 30
 
 unfoldable pub typed_line : Bool → List ℕ → Answer
 typed_line flag body = named_line (form_named (front_of space body)) flag body
@@ -96,15 +95,15 @@ pub record Part : Type 0 where
   pub told : Told
   pub bytes : ℕ
 
-abbrev pub part_of : Step → Part
-part_of (Step.Gives bytes) = record { told = plain 0; bytes = bytes }
-part_of (Step.Bad fault) = record { told = told_fault fault; bytes = 0 }
+abbrev pub part_of : Result ℕ Fault → Part
+part_of (Ok bytes) = record { told = plain 0; bytes = bytes }
+part_of (Err fault) = record { told = told_fault fault; bytes = 0 }
 
 abbrev pub part_for : List ℕ → Part
 part_for line = record { told = (line_of line).told; bytes = length (list_bytes (line_of line).taken) }
 
 -- What `gather` leaves: the judgement on a text, and its whole list at the front of the buffer, where the buffer is long enough.
-pub record Gathered (text buffer : List ℕ) (judgement : Translated) : Type 0 where
+pub record Gathered (text buffer : List ℕ) (judgement : Result ℕ Refusal) : Type 0 where
   pub is : translated_of judgement ≡ judged_text text
   pub front : (translated_of judgement).found.told.code ≡ 0 → (translated_of judgement).bytes ≤ length buffer
       → take (translated_of judgement).bytes buffer ≡ bytes_in text

@@ -7,54 +7,39 @@ ghost use Rattle.text.specs.Findings.{translated_of};
 ghost use Rattle.text.specs.Assemble.{judged_text, assembled_as, room_after};
 ghost use Rattle.text.specs.Steps.{part_of, part_for, Gathered};
 
-use super::findings::{Fault, Translated, no_room};
-use super::line::{Line, line_of};
+use super::findings::{Fault, Refusal};
+use super::line::line_of;
 use super::showing::LONGEST;
 use super::split::{LINE_FEED, front};
-
-// What one line adds: so many bytes, or a fault.
-#[derive(Clone, Copy)]
-pub enum Step {
-    Gives(usize),
-    Bad(Fault),
-}
 
 // How many bytes a command has.
 fn command_length(command: wire::Command) -> usize
     ensures { result ≡ length (command_bytes command) }
 {
-    let kind = command.kind;
-    let parts = wire::parts_of(kind);
-    let form = parts.form;
-    let row = wire::row_of(form);
-    (row.words as usize) * words::WORD
+    let parts = wire::parts_of(command.kind);
+    wire::row_of(parts.form).words as usize * words::WORD
 }
 
-// What a line adds; its bytes are put behind the first so many of a buffer, where they have room there.
-fn step_into(line: &[u8], buffer: &mut [u8], pos: usize) -> Step
+// How many bytes a line adds, or its fault; the bytes are put behind the first so many of a buffer, where they have room there.
+fn step_into(line: &[u8], buffer: &mut [u8], pos: usize) -> Result<usize, Fault>
     ensures result_value { part_of result ≡ part_for line.now }
     ensures buffer_after { buffer.new ≡ stored_at (list_bytes (line_of line.now).taken) pos buffer.old }
 {
-    match line_of(line) {
-        Line::Blank => Step::Gives(0),
-        Line::Bad(fault) => Step::Bad(fault),
-        Line::Typed(command) => {
-            let n = command_length(command);
-            if buffer.len() < pos {
-                return Step::Gives(n);
-            }
-            let _ = wire::write_command(command, &mut buffer[pos..]);
-            Step::Gives(n)
-        }
+    let Some(command) = line_of(line)? else {
+        return Ok(0);
+    };
+    if pos <= buffer.len() {
+        let _ = wire::write_command(command, &mut buffer[pos..]);
     }
+    Ok(command_length(command))
 }
 
 // A text judged, and its list put at the front of a buffer, where that is long enough.
-fn gather(text: &[u8], buffer: &mut [u8]) -> Translated
+fn gather(text: &[u8], buffer: &mut [u8]) -> Result<usize, Refusal>
     ensures { Gathered text.now buffer.new result }
 {
     if LONGEST < text.len() {
-        return Translated::TooLong;
+        return Err(Refusal::TooLong);
     }
     let mut at: usize = 0;
     let mut number: u32 = 0;
@@ -63,23 +48,23 @@ fn gather(text: &[u8], buffer: &mut [u8]) -> Translated
         let line = front(&text[at..], LINE_FEED);
         number += 1;
         match step_into(line, buffer, bytes) {
-            Step::Bad(fault) => {
-                return Translated::Bad(number, fault);
-            }
-            Step::Gives(n) => {
-                bytes += n;
-            }
+            Err(fault) => return Err(Refusal::BadLine(number, fault)),
+            Ok(n) => bytes += n,
         }
         at += line.len() + 1;
     }
     if walk::LONGEST < bytes {
-        return Translated::TooLong;
+        return Err(Refusal::TooLong);
     }
-    Translated::Done(bytes)
+    Ok(bytes)
 }
 
-// A text judged by itself: how many bytes its list has, or why there is none.
-pub fn judge_text(text: &[u8]) -> Translated
+/// A text judged by itself: how many bytes its list has.
+///
+/// # Errors
+///
+/// 20 for a text above 32,768 bytes, the first bad line, then 20 for a list above 4,096 bytes.
+pub fn judge_text(text: &[u8]) -> Result<usize, Refusal>
     ensures { translated_of result ≡ judged_text text.now }
 {
     // No command has room in a buffer of one byte, so that nothing is put.
@@ -93,21 +78,17 @@ fn list_buffer() -> [u8; walk::LONGEST]
     [0; walk::LONGEST]
 }
 
-// A text as the raw list that it says, at the front of a room.
-pub fn assemble(text: &[u8], room: &mut [u8]) -> Translated
+/// A text as the raw list that it says, at the front of a room, and how many bytes that has; the rest of the room stays as it was.
+///
+/// # Errors
+///
+/// Those of `judge_text`, then 24 for too little room, of no line. The room is then as it was.
+pub fn assemble(text: &[u8], room: &mut [u8]) -> Result<usize, Refusal>
     ensures result_value { translated_of result ≡ assembled_as text.now room.old }
     ensures room_after { room.new ≡ room_after text.now room.old }
 {
     let mut buffer = list_buffer();
-    match gather(text, &mut buffer) {
-        Translated::TooLong => Translated::TooLong,
-        Translated::Bad(line, fault) => Translated::Bad(line, fault),
-        Translated::Done(bytes) => {
-            if words::put_bytes(room, &buffer[..bytes]) {
-                Translated::Done(bytes)
-            } else {
-                no_room()
-            }
-        }
-    }
+    let bytes = gather(text, &mut buffer)?;
+    words::put_bytes(room, &buffer[..bytes])?;
+    Ok(bytes)
 }

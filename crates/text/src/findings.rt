@@ -1,45 +1,56 @@
 // What is found wrong with a line, a command to be listed, or a whole text or list, and the answers that carry it.
-ghost use Rattle.std.specs.Prelude.{◌≡◌};
+ghost use Rattle.std.specs.Prelude.{◌≡◌, Err};
 ghost use Rattle.wire.specs.Judge.{plain};
+ghost use Rattle.text.specs.declared.findings.Fault.TheVariants.{Wire};
 ghost use Rattle.text.specs.Findings.{told_fault, finding, no_room, translated_of};
 
-use wire::{Refusal, Told};
+use wire::{Tell, Told};
+use words::NoRoom;
 
-// Why a line is bad, or why a command cannot be listed.
-#[derive(Clone, Copy)]
+/// Why a line is bad, or why a command cannot be listed.
+#[derive(Clone, Copy, Debug, PartialEq, Eq)]
 pub enum Fault {
     UnknownName,
     WrongCount,
     Malformed,
     Unsayable,
-    Wire(Refusal),
+    Wire(wire::Refusal),
 }
 
-// A code with what was wrong with the number, and the line or the command that it is of: 0 where it is of none.
-#[derive(Clone, Copy)]
+impl From<wire::Refusal> for Fault {
+    ghost from_gives = { λ refused fault. fault ≡ Wire refused };
+
+    fn from(refused: wire::Refusal) -> Fault {
+        Fault::Wire(refused)
+    }
+}
+
+/// A code with what was wrong with the number, and the line or the command that it is of: 0 where it is of none.
+#[derive(Clone, Copy, Debug, PartialEq, Eq)]
 pub struct Finding {
     pub told: Told,
     pub number: u32,
 }
 
-// A text made into a list, or a list into a text: how many bytes; or why not, and the number of the bad line or command, 0 where it is of none.
-#[derive(Clone, Copy)]
-pub enum Translated {
-    Done(usize),
+/// Why a text is not made into a list, or a list not into a text: it is too long, or a line or a command, by its number, is bad. Number 0 stands for a
+/// fault of the whole.
+#[derive(Clone, Copy, Debug, PartialEq, Eq)]
+pub enum Refusal {
     TooLong,
-    Bad(u32, Fault),
+    BadLine(u32, Fault),
 }
 
-// The code of a fault, and what was wrong with the number.
-pub fn told_of(fault: Fault) -> Told
-    ensures { result ≡ told_fault fault }
-{
-    match fault {
-        Fault::UnknownName => wire::plain(30),
-        Fault::WrongCount => wire::plain(32),
-        Fault::Malformed => wire::plain(31),
-        Fault::Unsayable => wire::plain(33),
-        Fault::Wire(refusal) => wire::told_of(refusal),
+impl Tell for Fault {
+    ghost told = { told_fault };
+
+    fn told(&self) -> Told {
+        match self {
+            Fault::UnknownName => wire::plain(30),
+            Fault::WrongCount => wire::plain(32),
+            Fault::Malformed => wire::plain(31),
+            Fault::Unsayable => wire::plain(33),
+            Fault::Wire(refusal) => refusal.told(),
+        }
     }
 }
 
@@ -49,38 +60,29 @@ fn finding_with(told: Told, number: u32) -> Finding
     Finding { told, number }
 }
 
-// What is found of the whole, and of no line or command.
+/// What is found of the whole, and of no line or command.
 pub fn of_whole(code: u8) -> Finding
     ensures { result ≡ finding (plain code) 0 }
 {
     finding_with(wire::plain(code), 0)
 }
 
-// What was found: code 0 and number 0 where nothing was.
-pub fn finding_of(translated: Translated) -> Finding
-    ensures { result ≡ (translated_of translated).found }
+/// What was found: code 0 and number 0 where nothing was.
+pub fn finding_of(translated: &Result<usize, Refusal>) -> Finding
+    ensures { result ≡ (translated_of translated.now).found }
 {
     match translated {
-        Translated::Done(_) => of_whole(0),
-        Translated::TooLong => of_whole(20),
-        Translated::Bad(number, fault) => finding_with(told_of(fault), number),
+        Ok(_) => of_whole(0),
+        Err(Refusal::TooLong) => of_whole(20),
+        Err(Refusal::BadLine(number, fault)) => finding_with(fault.told(), *number),
     }
 }
 
-// How many bytes there are: none on a refusal.
-pub fn bytes_of(translated: Translated) -> usize
-    ensures { result ≡ (translated_of translated).bytes }
-{
-    match translated {
-        Translated::Done(bytes) => bytes,
-        Translated::TooLong => 0,
-        Translated::Bad(_, _) => 0,
-    }
-}
+/// Too little room, which is of no line.
+impl From<NoRoom> for Refusal {
+    ghost from_gives = { λ _ refusal. Err refusal ≡ no_room };
 
-// Too little room, which is of no line.
-pub fn no_room() -> Translated
-    ensures { result ≡ no_room }
-{
-    Translated::Bad(0, Fault::Wire(Refusal::NoRoom))
+    fn from(_: NoRoom) -> Refusal {
+        Refusal::BadLine(0, Fault::Wire(wire::Refusal::NoRoom))
+    }
 }

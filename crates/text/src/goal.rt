@@ -4,7 +4,7 @@ ghost use Rattle.text.specs.Goal.{goal_bits, quarters_in};
 ghost use Rattle.text.specs.Line.{goal_of};
 ghost use Rattle.text.specs.Steps.{guess_of};
 
-use super::number::{Number, quarters_of};
+use super::number::quarters_of;
 
 // The bits of the largest goal, and of a quarter, the smallest that text can say but 0.
 const LAST_GOAL: u32 = 0x447f_ffff;
@@ -15,12 +15,6 @@ const QUARTER: u32 = 0x3e80_0000;
 const FIELD: u32 = 0x0080_0000;
 
 const QUARTERS_FIELD: u32 = 148;
-
-#[derive(Clone, Copy)]
-pub enum Quarters {
-    Said(u32),
-    Unsaid,
-}
 
 // The bits of the single that is so many quarters.
 fn goal_bits(quarters: u32) -> u32
@@ -33,13 +27,11 @@ fn goal_bits(quarters: u32) -> u32
 }
 
 // A goal, as the bits of its single.
-pub fn goal_of(part: &[u8]) -> Number
+pub fn goal_of(part: &[u8]) -> Option<u32>
     ensures { result ≡ goal_of part.now }
 {
-    match quarters_of(part) {
-        Number::Whole(quarters) => Number::Whole(goal_bits(quarters)),
-        Number::Malformed => Number::Malformed,
-    }
+    let quarters = quarters_of(part)?;
+    Some(goal_bits(quarters))
 }
 
 // The whole quarters in the single with these bits.
@@ -54,15 +46,15 @@ fn guess_of(bits: u32) -> u32
 }
 
 // The quarters that have these bits.
-pub fn quarters_in(bits: u32) -> Quarters
+pub fn quarters_in(bits: u32) -> Option<u32>
     ensures { result ≡ quarters_in bits }
 {
     if LAST_GOAL < bits {
-        return Quarters::Unsaid;
+        return None;
     }
     let guess = guess_of(bits);
     if goal_bits(guess) == bits {
-        return Quarters::Said(guess);
+        return Some(guess);
     }
-    Quarters::Unsaid
+    None
 }

@@ -13,8 +13,8 @@ mod showing;
 mod split;
 
 pub use assembling::{assemble, judge_text};
-pub use findings::{Fault, Finding, Translated, bytes_of, finding_of, of_whole, told_of};
-pub use line::{Line, line_of};
+pub use findings::{Fault, Finding, Refusal, finding_of, of_whole};
+pub use line::line_of;
 pub use printing::list_text;
 pub use showing::{LONGEST, line_shown};
 pub use split::{LINE_FEED, front};

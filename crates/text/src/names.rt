@@ -5,67 +5,61 @@ ghost use Rattle.text.specs.Names.{macro_named, form_named};
 use super::same::same;
 use wire::Form;
 
-#[derive(Clone, Copy)]
-pub enum Named {
-    Known(Form),
-    Unknown,
-}
-
 // The form that has this name.
-pub fn form_named(name: &[u8]) -> Named
+pub fn form_named(name: &[u8]) -> Option<Form>
     ensures { result ≡ form_named name.now }
 {
     if same(name, b"img_pwr") {
-        return Named::Known(Form::ImgPwr);
+        return Some(Form::ImgPwr);
     }
     if same(name, b"img_region") {
-        return Named::Known(Form::ImgRegion);
+        return Some(Form::ImgRegion);
     }
     if same(name, b"img_track") {
-        return Named::Known(Form::ImgTrack);
+        return Some(Form::ImgTrack);
     }
     if same(name, b"trk_alg") {
-        return Named::Known(Form::TrkAlg);
+        return Some(Form::TrkAlg);
     }
     if same(name, b"trk_loop") {
-        return Named::Known(Form::TrkLoop);
+        return Some(Form::TrkLoop);
     }
     if same(name, b"img_image") {
-        return Named::Known(Form::ImgImage);
+        return Some(Form::ImgImage);
     }
     if same(name, b"trk_goal") {
-        return Named::Known(Form::TrkGoal);
+        return Some(Form::TrkGoal);
     }
     if same(name, b"tlm_flush") {
-        return Named::Known(Form::TlmFlush);
+        return Some(Form::TlmFlush);
     }
     if same(name, b"flush_auto") {
-        return Named::Known(Form::FlushAuto);
+        return Some(Form::FlushAuto);
     }
     macro_named(name)
 }
 
 // The names of the commands about macros.
-fn macro_named(name: &[u8]) -> Named
+fn macro_named(name: &[u8]) -> Option<Form>
     ensures { result ≡ macro_named name.now }
 {
     if same(name, b"open") {
-        return Named::Known(Form::Open);
+        return Some(Form::Open);
     }
     if same(name, b"close") {
-        return Named::Known(Form::Close);
+        return Some(Form::Close);
     }
     if same(name, b"run") {
-        return Named::Known(Form::Run);
+        return Some(Form::Run);
     }
     if same(name, b"wait") {
-        return Named::Known(Form::Wait);
+        return Some(Form::Wait);
     }
     if same(name, b"stop") {
-        return Named::Known(Form::Stop);
+        return Some(Form::Stop);
     }
     if same(name, b"clear") {
-        return Named::Known(Form::Clear);
+        return Some(Form::Clear);
     }
-    Named::Unknown
+    None
 }

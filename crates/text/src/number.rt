@@ -5,12 +5,6 @@ ghost use Rattle.text.specs.Steps.{Counted};
 
 use super::same::same;
 
-#[derive(Clone, Copy)]
-pub enum Number {
-    Whole(u32),
-    Malformed,
-}
-
 // The digits at the front of a text: what they say, and how many they are.
 #[derive(Drop)]
 struct Digits {
@@ -59,49 +53,47 @@ fn digits_of(part: &[u8]) -> Digits
 }
 
 // A whole number.
-pub fn whole_of(part: &[u8]) -> Number
+pub fn whole_of(part: &[u8]) -> Option<u32>
     ensures { result ≡ whole_of part.now }
 {
     let digits = digits_of(part);
     if digits.count == 0 {
-        return Number::Malformed;
+        return None;
     }
     if digits.count == part.len() {
-        return Number::Whole(digits.value);
+        return Some(digits.value);
     }
-    Number::Malformed
+    None
 }
 
 // The quarters that the end of a goal says.
-fn fraction_of(part: &[u8]) -> Number
+fn fraction_of(part: &[u8]) -> Option<u32>
     ensures { result ≡ fraction_of part.now }
 {
     if part.len() == 0 {
-        return Number::Whole(0);
+        return Some(0);
     }
     if same(part, b".25") {
-        return Number::Whole(1);
+        return Some(1);
     }
     if same(part, b".5") {
-        return Number::Whole(2);
+        return Some(2);
     }
     if same(part, b".75") {
-        return Number::Whole(3);
+        return Some(3);
     }
-    Number::Malformed
+    None
 }
 
 // A goal, in quarters.
-pub fn quarters_of(part: &[u8]) -> Number
+pub fn quarters_of(part: &[u8]) -> Option<u32>
     ensures { result ≡ quarters_of part.now }
 {
     let digits = digits_of(part);
     let count = digits.count;
     if count == 0 {
-        return Number::Malformed;
+        return None;
     }
-    match fraction_of(&part[count..]) {
-        Number::Whole(quarters) => Number::Whole(digits.value * WHOLE + quarters),
-        Number::Malformed => Number::Malformed,
-    }
+    let quarters = fraction_of(&part[count..])?;
+    Some(digits.value * WHOLE + quarters)
 }

@@ -9,8 +9,8 @@ ghost use Rattle.text.specs.Findings.{translated_of};
 ghost use Rattle.text.specs.Lister.{fraction, said_text, arguments_text, is_said, can_say, listed_as, listed_room};
 ghost use Rattle.text.specs.ListSteps.{mark, ended_line, offer_of, offered_at, Lined};
 
-use super::findings::{Fault, Translated, no_room};
-use super::goal::{Quarters, quarters_in};
+use super::findings::{Fault, Refusal};
+use super::goal::quarters_in;
 use wire::{Command, Form, Layout};
 
 // The text of the longest list fits: a line is at most twice as long as its command's bytes.
@@ -19,60 +19,33 @@ const BUFFER: usize = 2 * walk::LONGEST;
 // Quarters in a whole.
 const WHOLE: u32 = 4;
 
-// What the command at the front of a list comes to: a line can say it, or there is a fault.
-#[derive(Clone, Copy)]
-pub enum Offer {
-    Sayable(Command),
-    Bad(Fault),
-}
-
 // Can text say the goal with these bits?
 fn is_said(bits: u32) -> bool
     ensures { result ≡ is_said (quarters_in bits) }
 {
-    match quarters_in(bits) {
-        Quarters::Said(_) => true,
-        Quarters::Unsaid => false,
-    }
+    quarters_in(bits).is_some()
 }
 
 // Can text say a command's arguments?
 fn can_say(command: Command) -> bool
     ensures { result ≡ can_say command }
 {
-    let kind = command.kind;
-    let parts = wire::parts_of(kind);
-    let form = parts.form;
-    let row = wire::row_of(form);
-    let layout = row.layout;
-    match layout {
-        Layout::Bare => true,
-        Layout::Byte => true,
-        Layout::Half => true,
-        Layout::Halves => true,
-        Layout::Singles => {
-            if is_said(parts.first) {
-                is_said(parts.second)
-            } else {
-                false
-            }
-        }
+    let parts = wire::parts_of(command.kind);
+    match wire::row_of(parts.form).layout {
+        Layout::Bare | Layout::Byte | Layout::Half | Layout::Halves => true,
+        Layout::Singles => is_said(parts.first) && is_said(parts.second),
     }
 }
 
-// The first of 1 to 10, then 33, of the command at the front.
-fn offer_at(rest: &[u8]) -> Offer
+// The command at the front, where a line can say it; else the first of 1 to 10, then 33.
+fn offer_at(rest: &[u8]) -> Result<Command, Fault>
     ensures { offer_of result ≡ offered_at rest.now }
 {
-    match wire::read_command(rest) {
-        Err(refusal) => Offer::Bad(Fault::Wire(refusal)),
-        Ok(command) => {
-            if can_say(command) {
-                Offer::Sayable(command)
-            } else {
-                Offer::Bad(Fault::Unsayable)
-            }
-        }
+    let command = wire::read_command(rest)?;
+    if can_say(command) {
+        Ok(command)
+    } else {
+        Err(Fault::Unsayable)
     }
 }
 
@@ -148,8 +121,8 @@ fn put_goal(buffer: &mut [u8], at: usize, bits: u32) -> usize
     ensures buffer_after { buffer.new ≡ sets buffer.old at (space ∷ said_text (quarters_in bits)) }
 {
     match quarters_in(bits) {
-        Quarters::Unsaid => words::put_at(buffer, at, b" "),
-        Quarters::Said(quarters) => {
+        None => words::put_at(buffer, at, b" "),
+        Some(quarters) => {
             let end = put_number(buffer, at, quarters / WHOLE);
             put_fraction(buffer, end, quarters % WHOLE)
         }
@@ -195,12 +168,12 @@ fn put_line(buffer: &mut [u8], at: usize, command: Command) -> usize
 }
 
 // A list judged, and its text put at the front of the buffer.
-fn gather_lines(raw: &[u8], buffer: &mut [u8]) -> Translated
+fn gather_lines(raw: &[u8], buffer: &mut [u8]) -> Result<usize, Refusal>
     requires { 8192 ≤ length buffer.old }
     ensures { Lined raw.now buffer.new result }
 {
     if walk::LONGEST < raw.len() {
-        return Translated::TooLong;
+        return Err(Refusal::TooLong);
     }
     let mut at: usize = 0;
     let mut number: u32 = 0;
@@ -208,16 +181,12 @@ fn gather_lines(raw: &[u8], buffer: &mut [u8]) -> Translated
     while at < raw.len() {
         number += 1;
         match offer_at(&raw[at..]) {
-            Offer::Bad(fault) => {
-                return Translated::Bad(number, fault);
-            }
-            Offer::Sayable(command) => {
-                end = put_line(buffer, end, command);
-            }
+            Err(fault) => return Err(Refusal::BadLine(number, fault)),
+            Ok(command) => end = put_line(buffer, end, command),
         }
         at += wire::span(&raw[at..]);
     }
-    Translated::Done(end)
+    Ok(end)
 }
 
 fn text_buffer() -> [u8; BUFFER]
@@ -226,21 +195,18 @@ fn text_buffer() -> [u8; BUFFER]
     [0; BUFFER]
 }
 
-// A raw list as the text that says it, at the front of a room.
-pub fn list_text(raw: &[u8], room: &mut [u8]) -> Translated
+/// A raw list as the text that says it, at the front of a room, and how many bytes that has; the rest of the room stays as it was. The number of a
+/// refusal is a command's, from 1.
+///
+/// # Errors
+///
+/// 20 for a list above 4,096 bytes, the first bad command's first of 1 to 10, then 33, and 24 for too little room, of no command. The room is then as it was.
+pub fn list_text(raw: &[u8], room: &mut [u8]) -> Result<usize, Refusal>
     ensures result_value { translated_of result ≡ listed_as raw.now room.old }
     ensures room_after { room.new ≡ listed_room raw.now room.old }
 {
     let mut buffer = text_buffer();
-    match gather_lines(raw, &mut buffer) {
-        Translated::TooLong => Translated::TooLong,
-        Translated::Bad(number, fault) => Translated::Bad(number, fault),
-        Translated::Done(bytes) => {
-            if words::put_bytes(room, &buffer[..bytes]) {
-                Translated::Done(bytes)
-            } else {
-                no_room()
-            }
-        }
-    }
+    let bytes = gather_lines(raw, &mut buffer)?;
+    words::put_bytes(room, &buffer[..bytes])?;
+    Ok(bytes)
 }

@@ -10,4 +10,4 @@ returns c =
     sym
     (length_command c.args.command
     ∙ ap (λ p. (row_of p.form).words * 4) (sym c.parts_of-parts.ensures)
-    ∙ ap (λ r. r.words * 4) (sym c.row_of-row.ensures))
+    ∙ ap (λ r. r.words * 4) (sym c.row_of.ensures))

@@ -11,21 +11,21 @@ use Rattle.text.proofs.assembling.gather.Goals as goal
 pub returns-then-text-gt-LONGEST : goal.returns-then-text-gt-LONGEST
 returns-then-text-gt-LONGEST c = gathered_long _ _ c.if-text-gt-LONGEST.true
 
-pub returns-in-Bad : goal.returns-in-Bad
-returns-in-Bad c =
+pub returns-in-Err : goal.returns-in-Err
+returns-in-Err c =
     turn_bad _ _ _ _ _ _ c.loop-at.invariant c.loop-at-test.true _ c.front-line.ensures _ c.step_into.ensures.buffer_after
-    c.if-text-gt-LONGEST.false c.in-Bad.fault (sym (ap part_of c.in-Bad.is) ∙ c.step_into.ensures.result_value)
+    c.if-text-gt-LONGEST.false c.in-Err.fault (sym (ap part_of c.in-Err.is) ∙ c.step_into.ensures.result_value)
 
 pub overflow_add-bytes : goal.overflow_add-bytes
 overflow_add-bytes c =
-    let gives : (let loop = c.loop-at in Gathering c.args.text.now c.args.buffer.now c.step_into.new.buffer (loop.at + (length c.front-line.result.now + 1)) (loop.number + 1) (loop.bytes + c.in-Gives.n)) = turn_gives _ _ _ _ _ _ c.loop-at.invariant c.loop-at-test.true _ c.front-line.ensures _ c.step_into.ensures.buffer_after
-    c.in-Gives.n (sym (ap part_of c.in-Gives.is) ∙ c.step_into.ensures.result_value) in
+    let gives : (let loop = c.loop-at in Gathering c.args.text.now c.args.buffer.now c.step_into.new.buffer (loop.at + (length c.front-line.result.now + 1)) (loop.number + 1) (loop.bytes + c.in-Ok.n)) = turn_gives _ _ _ _ _ _ c.loop-at.invariant c.loop-at-test.true _ c.front-line.ensures _ c.step_into.ensures.buffer_after
+    c.in-Ok.n (sym (ap part_of c.in-Ok.is) ∙ c.step_into.ensures.result_value) in
     omega (arith, gives, c.if-text-gt-LONGEST.false)
 
 pub loop-at-preserved : goal.loop-at-preserved
 loop-at-preserved c =
-    let gives : (let loop = c.loop-at in Gathering c.args.text.now c.args.buffer.now c.step_into.new.buffer (loop.at + (length c.front-line.result.now + 1)) (loop.number + 1) (loop.bytes + c.in-Gives.n)) = turn_gives _ _ _ _ _ _ c.loop-at.invariant c.loop-at-test.true _ c.front-line.ensures _ c.step_into.ensures.buffer_after
-    c.in-Gives.n (sym (ap part_of c.in-Gives.is) ∙ c.step_into.ensures.result_value) in
+    let gives : (let loop = c.loop-at in Gathering c.args.text.now c.args.buffer.now c.step_into.new.buffer (loop.at + (length c.front-line.result.now + 1)) (loop.number + 1) (loop.bytes + c.in-Ok.n)) = turn_gives _ _ _ _ _ _ c.loop-at.invariant c.loop-at-test.true _ c.front-line.ensures _ c.step_into.ensures.buffer_after
+    c.in-Ok.n (sym (ap part_of c.in-Ok.is) ∙ c.step_into.ensures.result_value) in
     gives
 
 pub returns-then-bytes-gt-LONGEST : goal.returns-then-bytes-gt-LONGEST

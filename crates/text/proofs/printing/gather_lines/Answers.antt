@@ -11,22 +11,22 @@ use Rattle.text.proofs.printing.gather_lines.Goals as goal
 pub returns-then-raw-gt-LONGEST : goal.returns-then-raw-gt-LONGEST
 returns-then-raw-gt-LONGEST c = lined_long _ _ c.if-raw-gt-LONGEST.true
 
-pub returns-in-Bad : goal.returns-in-Bad
-returns-in-Bad c =
-    turn_bad _ _ _ _ _ _ c.loop-at.invariant c.if-raw-gt-LONGEST.false c.loop-at-test.true c.in-Bad.fault
-    (sym (ap offer_of c.in-Bad.is) ∙ c.offer_at.ensures)
+pub returns-in-Err : goal.returns-in-Err
+returns-in-Err c =
+    turn_bad _ _ _ _ _ _ c.loop-at.invariant c.if-raw-gt-LONGEST.false c.loop-at-test.true c.in-Err.fault
+    (sym (ap offer_of c.in-Err.is) ∙ c.offer_at.ensures)
 
 pub put_line-end-requires : goal.put_line-end-requires
 put_line-end-requires c =
     let all_bytes : Bytes c.args.raw.now = λ i. omega (arith, c.type_inv.raw i) in
-    line_fits _ _ _ _ _ _ c.loop-at.invariant c.if-raw-gt-LONGEST.false c.loop-at-test.true all_bytes c.in-Sayable.command
-    (sym (ap offer_of c.in-Sayable.is) ∙ c.offer_at.ensures) c.requires
+    line_fits _ _ _ _ _ _ c.loop-at.invariant c.if-raw-gt-LONGEST.false c.loop-at-test.true all_bytes c.in-Ok.command
+    (sym (ap offer_of c.in-Ok.is) ∙ c.offer_at.ensures) c.requires
 
 pub overflow_add-at : goal.overflow_add-at
 overflow_add-at c =
     let all_bytes : Bytes c.args.raw.now = λ i. omega (arith, c.type_inv.raw i) in
-    let next : (let start = c.args in let loop = c.loop-at in let put = c.put_line-end in Lining start.raw.now start.buffer.now put.new.buffer (loop.at + c.span-at.result) (loop.number + 1) put.result) = turn_next _ _ _ _ _ _ c.loop-at.invariant c.if-raw-gt-LONGEST.false c.loop-at-test.true all_bytes c.in-Sayable.command
-    (sym (ap offer_of c.in-Sayable.is) ∙ c.offer_at.ensures) c.requires _ _ _ c.span-at.ensures
+    let next : (let start = c.args in let loop = c.loop-at in let put = c.put_line-end in Lining start.raw.now start.buffer.now put.new.buffer (loop.at + c.span-at.result) (loop.number + 1) put.result) = turn_next _ _ _ _ _ _ c.loop-at.invariant c.if-raw-gt-LONGEST.false c.loop-at-test.true all_bytes c.in-Ok.command
+    (sym (ap offer_of c.in-Ok.is) ∙ c.offer_at.ensures) c.requires _ _ _ c.span-at.ensures
     (c.put_line-end.ensures.value, c.put_line-end.ensures.buffer_after) in
     omega (arith, next.within)
 
@@ -38,8 +38,8 @@ loop-at-smaller c =
 pub loop-at-preserved : goal.loop-at-preserved
 loop-at-preserved c =
     let all_bytes : Bytes c.args.raw.now = λ i. omega (arith, c.type_inv.raw i) in
-    let next : (let start = c.args in let loop = c.loop-at in let put = c.put_line-end in Lining start.raw.now start.buffer.now put.new.buffer (loop.at + c.span-at.result) (loop.number + 1) put.result) = turn_next _ _ _ _ _ _ c.loop-at.invariant c.if-raw-gt-LONGEST.false c.loop-at-test.true all_bytes c.in-Sayable.command
-    (sym (ap offer_of c.in-Sayable.is) ∙ c.offer_at.ensures) c.requires _ _ _ c.span-at.ensures
+    let next : (let start = c.args in let loop = c.loop-at in let put = c.put_line-end in Lining start.raw.now start.buffer.now put.new.buffer (loop.at + c.span-at.result) (loop.number + 1) put.result) = turn_next _ _ _ _ _ _ c.loop-at.invariant c.if-raw-gt-LONGEST.false c.loop-at-test.true all_bytes c.in-Ok.command
+    (sym (ap offer_of c.in-Ok.is) ∙ c.offer_at.ensures) c.requires _ _ _ c.span-at.ensures
     (c.put_line-end.ensures.value, c.put_line-end.ensures.buffer_after) in
     next
 
