@@ -1,16 +1,16 @@
 -- Rows 11 to 19 of 01's codes and 25, which 02 (Q-2) puts behind 15, on a command that passed 8 to 10.
-use Rattle.std.specs.Prelude.{ℕ, List, [], ◌∷◌, Bool, false, not, ◌&&◌, ◌||◌, length, get_or, leb, ltb, eqb}
-use Rattle.words.specs.Codes.{Check, ◌when◌, first_of}
+use Rattle.std.specs.Prelude.{ℕ, ◌<◌, List, [], ◌∷◌, Bool, false, not, ◌&&◌, ◌||◌, length, get_or, leb, ltb, eqb, Result}
+use Rattle.std.proofs.Common.{arith}
+use Rattle.words.specs.Codes.{Check, ◌when◌, first_of, answer_code}
 use Rattle.wire.specs.declared.kinds.Command.{Command}
 use Rattle.store.specs.declared.Store.{Store}
 use Rattle.store.specs.declared.roles.Role.{Role}
 use Rattle.store.specs.declared.checks.Denial.{Denial}
-use Rattle.store.specs.declared.checks.Permit.{Permit}
 use Rattle.store.specs.Roles.{role_of, is_open, is_close, is_run, is_clear, number_of}
 use Rattle.store.specs.Pool.{count_of, used_in}
 use Rattle.store.specs.WrittenOut.{most_in, written_out}
 
--- 01's number of each denial; 0 is permission.
+-- The number of each denial.
 abbrev pub code_of : Denial → ℕ
 code_of Denial.NoneOpen = 11
 code_of Denial.AnotherOpen = 12
@@ -23,9 +23,22 @@ code_of Denial.NotBelow = 17
 code_of Denial.NotClosed = 18
 code_of Denial.Running = 19
 
-abbrev pub told_permit : Permit → ℕ
-told_permit Permit.Granted = 0
-told_permit (Permit.Denied denial) = code_of denial
+-- No denial has code 0.
+pub code_of_some : (denial : Denial) → 0 < code_of denial
+code_of_some Denial.NoneOpen = omega arith
+code_of_some Denial.AnotherOpen = omega arith
+code_of_some Denial.AlreadyClosed = omega arith
+code_of_some Denial.NoEntries = omega arith
+code_of_some Denial.TooLong = omega arith
+code_of_some Denial.TooMany = omega arith
+code_of_some Denial.NoneFree = omega arith
+code_of_some Denial.NotBelow = omega arith
+code_of_some Denial.NotClosed = omega arith
+code_of_some Denial.Running = omega arith
+
+-- The code of a permission or a denial; 0 is permission.
+abbrev pub told_permit : Result Unit Denial → ℕ
+told_permit = answer_code code_of
 
 -- "flag 1, or CLOSE, and no macro open"
 abbrev pub row11 : Bool → Role → ℕ → Bool

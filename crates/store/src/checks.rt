@@ -1,14 +1,16 @@
 // Rows 11 to 19 and 25 of the codes, each as a test on the few numbers that it looks at.
 ghost use Rattle.std.specs.Prelude.{◌≡◌};
 ghost use Rattle.words.specs.Codes.{first_of};
-ghost use Rattle.store.specs.Checks.{code_of, told_permit, row11, row12, row13, row14, row15, row25, row17, row18, row19};
+ghost use Rattle.store.specs.Checks.{code_of, code_of_some, told_permit, row11, row12, row13, row14, row15, row25, row17, row18, row19};
 ghost use Rattle.store.specs.TallySteps.{entry_checks};
 
 use super::arrays::closed_at;
 use super::roles::{Role, is_clear, is_close, is_open, is_run, number_of};
 use super::{ENTRIES, GROUP, LONGEST, NONE};
+use words::Code;
 
-#[derive(Clone, Copy)]
+/// Why a command that passed codes 1 to 10 is refused by the macro store. Rules: "The codes".
+#[derive(Clone, Copy, Debug, PartialEq, Eq)]
 pub enum Denial {
     NoneOpen,
     AnotherOpen,
@@ -22,27 +24,24 @@ pub enum Denial {
     Running,
 }
 
-#[derive(Clone, Copy)]
-pub enum Permit {
-    Granted,
-    Denied(Denial),
-}
+impl Code for Denial {
+    ghost code = { code_of };
 
-// The code of a denial.
-pub fn code_of(denial: Denial) -> u8
-    ensures { result ≡ code_of denial }
-{
-    match denial {
-        Denial::NoneOpen => 11,
-        Denial::AnotherOpen => 12,
-        Denial::AlreadyClosed => 13,
-        Denial::NoEntries => 14,
-        Denial::TooLong => 15,
-        Denial::TooMany => 25,
-        Denial::NoneFree => 16,
-        Denial::NotBelow => 17,
-        Denial::NotClosed => 18,
-        Denial::Running => 19,
+    ghost refuses = { code_of_some };
+
+    fn code(&self) -> u8 {
+        match self {
+            Denial::NoneOpen => 11,
+            Denial::AnotherOpen => 12,
+            Denial::AlreadyClosed => 13,
+            Denial::NoEntries => 14,
+            Denial::TooLong => 15,
+            Denial::TooMany => 25,
+            Denial::NoneFree => 16,
+            Denial::NotBelow => 17,
+            Denial::NotClosed => 18,
+            Denial::Running => 19,
+        }
     }
 }
 
@@ -151,22 +150,22 @@ pub(crate) fn permits_entry(
     closed: [bool; 8],
     opened: u8,
     running: u8,
-) -> Permit
+) -> Result<(), Denial>
     ensures { told_permit result ≡ first_of (entry_checks flag role used closed opened running) }
 {
     if flag {
         if ENTRIES <= used {
-            return Permit::Denied(Denial::NoneFree);
+            return Err(Denial::NoneFree);
         }
     }
     if runs_upward(flag, role, opened) {
-        return Permit::Denied(Denial::NotBelow);
+        return Err(Denial::NotBelow);
     }
     if runs_unclosed(role, closed) {
-        return Permit::Denied(Denial::NotClosed);
+        return Err(Denial::NotClosed);
     }
     if starts_busy(flag, role, running) {
-        return Permit::Denied(Denial::Running);
+        return Err(Denial::Running);
     }
-    Permit::Granted
+    Ok(())
 }

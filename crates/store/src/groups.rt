@@ -62,11 +62,10 @@ pub fn group_size(count: u8) -> usize
 fn kind_as(form: Form, first: u32, second: u32) -> Kind
     ensures { result ≡ (command_for (Some (form, 0)) true first second).kind }
 {
-    if wire::first_bad(wire::row_of(form), first, second) == 0 {
-        wire::kind_of(form, first, second)
-    } else {
-        Kind::ImgPwr(0)
+    if wire::first_bad(wire::row_of(form), first, second).is_some() {
+        return Kind::ImgPwr(0);
     }
+    wire::kind_of(form, first, second)
 }
 
 // The same; in each arm the form is a constant.

@@ -3,10 +3,11 @@
 #![tactic(auto)]
 
 ghost use Rattle.std.specs.Prelude.{◌≡◌, cond, eqb};
+ghost use Rattle.std.proofs.Common.{rules};
 ghost use Rattle.store.specs.Pool.{marks_of};
 ghost use Rattle.store.specs.Effects.{fresh_store};
 ghost use Rattle.store.specs.TallySteps.{store_of, bare_of, survey_of};
-ghost use Rattle.store.specs.SecondSteps.{step_with, stepped_of};
+ghost use Rattle.store.specs.SecondSteps.{stepped_of};
 
 mod arrays;
 mod checks;
@@ -17,11 +18,12 @@ mod soundness;
 mod spans;
 mod tally;
 
-pub use checks::{Denial, Permit, code_of};
+pub use checks::Denial;
 pub use groups::{Group, group_size, handed_at};
 pub use roles::Role;
 pub use spans::Span;
 pub use tally::{Survey, Tally, keep};
+use words::Code;
 
 // How many macros there are, and how many entries they share.
 pub const MACROS: usize = 8;
@@ -50,23 +52,25 @@ pub struct Store {
     pub left: u16,
 }
 
-// A second's step: whether the store is sound, the macro that runs afterwards with its seconds left, and the group that was handed over.
+/// A second of a sound store: the macro that runs afterwards with its seconds left, and the group that was handed over.
 #[derive(Clone, Copy)]
 pub struct Step {
-    pub sound: bool,
     pub running: u8,
     pub left: u16,
     pub group: Group,
 }
 
-fn step_with(sound: bool, running: u8, left: u16, group: Group) -> Step
-    ensures { result ≡ step_with sound running left group }
-{
-    Step {
-        sound,
-        running,
-        left,
-        group,
+/// The store is not sound: no command sequence reaches it.
+#[derive(Clone, Copy, Debug, PartialEq, Eq)]
+pub struct Unsound;
+
+impl Code for Unsound {
+    ghost code = { λ _. 27 };
+
+    ghost refuses = { Prim.search rules };
+
+    fn code(&self) -> u8 {
+        27
     }
 }
 
@@ -135,24 +139,36 @@ pub fn survey(pool: &[u32; 576], tally: Tally) -> Survey
     Survey { sound, tally }
 }
 
-// The second of the two things that a second does: the running macro's next group is handed over, and one second less is left. A store that is
-// not sound stays.
-pub fn second(pool: &[u32; 576], tally: Tally) -> Step
+/// The second of the two things that a second does: the running macro's next group is handed over, and one second less is left.
+///
+/// # Errors
+///
+/// `Unsound` (27) where the store is not sound; it stays as it is then, and nothing is handed over.
+pub fn second(pool: &[u32; 576], tally: Tally) -> Result<Step, Unsound>
     ensures { result ≡ stepped_of (store_of pool.now tally) }
 {
     let running = tally.running;
     let left = tally.left;
     let survey = survey(pool, tally);
     if !survey.sound {
-        return step_with(false, running, left, Group::none());
+        return Err(Unsound);
     }
     if running == NONE {
-        return step_with(true, running, left, Group::none());
+        let group = Group::none();
+        return Ok(Step {
+            running,
+            left,
+            group,
+        });
     }
     let tally = survey.tally;
     let group = groups::group_due(pool, tally, running, left);
     let left = spans::less(left, 1);
-    step_with(true, still_running(running, left), left, group)
+    Ok(Step {
+        running: still_running(running, left),
+        left,
+        group,
+    })
 }
 
 // The closed macros as a byte, bit m for macro m.

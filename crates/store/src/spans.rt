@@ -201,22 +201,20 @@ pub(crate) fn beat_of(role: Role) -> Beat
 fn run_beat(first: u32, second: u32) -> Beat
     ensures { result ≡ beat_as Form.Run first second }
 {
-    if wire::first_bad(wire::row_of(Form::Run), first, second) == 0 {
-        Beat::Run((first % 256) as u8)
-    } else {
-        Beat::Entry
+    if wire::first_bad(wire::row_of(Form::Run), first, second).is_some() {
+        return Beat::Entry;
     }
+    Beat::Run((first % 256) as u8)
 }
 
 // The same for a WAIT, whose seconds have 16 bits.
 fn wait_beat(first: u32, second: u32) -> Beat
     ensures { result ≡ beat_as Form.Wait first second }
 {
-    if wire::first_bad(wire::row_of(Form::Wait), first, second) == 0 {
-        Beat::Wait((first % 65536) as u16)
-    } else {
-        Beat::Entry
+    if wire::first_bad(wire::row_of(Form::Wait), first, second).is_some() {
+        return Beat::Entry;
     }
+    Beat::Wait((first % 65536) as u16)
 }
 
 // An entry by its words: most entries are told by two comparisons.

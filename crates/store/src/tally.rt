@@ -4,7 +4,7 @@ ghost use Rattle.std.specs.Prelude.{◌≡◌};
 ghost use Rattle.store.specs.Checks.{told_permit};
 ghost use Rattle.store.specs.TallySteps.{used_by, free_by, takes_by, passes_by, tally_code, pool_after, appended_by, executed_by, tally_after};
 
-use super::checks::{Denial, Permit};
+use super::checks::Denial;
 use super::roles::{Role, is_plain, role_of};
 use super::spans::{Span, beat_of, joined_with, no_span, seconds_of, span_at};
 use super::{ENTRIES, MACROS, NONE, arrays, checks, pool};
@@ -36,14 +36,14 @@ fn passes_by(flag: bool, role: Role) -> bool
 
 impl Tally {
     // Codes 11 to 19 and 25, on a command that passed 8 to 10.
-    pub fn permits(self, command: Command) -> Permit
+    pub fn permits(self, command: Command) -> Result<(), Denial>
         ensures { told_permit result ≡ tally_code self command }
     {
         let flag = command.flag;
         let kind = command.kind;
         let role = role_of(kind);
         if passes_by(flag, role) {
-            return Permit::Granted;
+            return Ok(());
         }
         let counts = self.counts;
         let closed = self.closed;
@@ -52,22 +52,22 @@ impl Tally {
         let count = arrays::count_at(counts, opened);
         let span = span_at(spans, opened);
         if checks::lacks_open(flag, role, opened) {
-            return Permit::Denied(Denial::NoneOpen);
+            return Err(Denial::NoneOpen);
         }
         if checks::opens_another(role, opened) {
-            return Permit::Denied(Denial::AnotherOpen);
+            return Err(Denial::AnotherOpen);
         }
         if checks::opens_closed(role, closed) {
-            return Permit::Denied(Denial::AlreadyClosed);
+            return Err(Denial::AlreadyClosed);
         }
         if checks::closes_empty(role, count) {
-            return Permit::Denied(Denial::NoEntries);
+            return Err(Denial::NoEntries);
         }
         if checks::closes_too_long(role, seconds_of(span)) {
-            return Permit::Denied(Denial::TooLong);
+            return Err(Denial::TooLong);
         }
         if checks::closes_too_many(role, span.most) {
-            return Permit::Denied(Denial::TooMany);
+            return Err(Denial::TooMany);
         }
         checks::permits_entry(flag, role, self.used(), closed, opened, self.running)
     }

@@ -17,8 +17,6 @@ returns-then-not-survey c =
     let handed_in : Store = store_of c.args.pool.now c.args.tally in
     let sound_told : c.survey-survey.result.sound ≡ store_sound handed_in = ap (λ (r : Survey). r.sound) c.survey-survey.ensures in
     rw (
-      c.step_with.ensures,
-      c.none.ensures,
       ← sound_told,
       not-true c.survey-survey.result.sound c.if-not-survey.true,
     )
@@ -29,8 +27,7 @@ returns-then-running c =
     let handed_in : Store = store_of c.args.pool.now c.args.tally in
     let sound_told : c.survey-survey.result.sound ≡ store_sound handed_in = ap (λ (r : Survey). r.sound) c.survey-survey.ensures in
     rw (
-      c.step_with-then-running.ensures,
-      c.none-then-running.ensures,
+      c.none-group.ensures,
       ← sound_told,
       not-false c.survey-survey.result.sound c.if-not-survey.false,
       eq-eqb _ 255 c.if-running.true,
@@ -53,7 +50,6 @@ returns c =
     let sound_told : c.survey-survey.result.sound ≡ store_sound handed_in = ap (λ (r : Survey). r.sound) c.survey-survey.ensures in
     let tally_told : c.survey-survey.result.tally ≡ tally_of handed_in = ap (λ (r : Survey). r.tally) c.survey-survey.ensures in
     rw (
-      c.step_with-2.ensures,
       ← sound_told,
       not-false c.survey-survey.result.sound c.if-not-survey.false,
       ne_eqb _ 255 c.if-running.false,
