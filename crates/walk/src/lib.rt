@@ -1,4 +1,5 @@
-// How a list of commands is walked: where each command begins, and the bytes of a reported command as a part of its sender's list.
+//! How a list of commands is walked: where each command begins, and the bytes of a reported command as a part of its sender's list.
+//! Rules: "Two lists, one report", "Bytes shown".
 #![tactic(auto)]
 
 ghost use Rattle.std.specs.Prelude.{◌≡◌};
@@ -6,20 +7,22 @@ ghost use Rattle.std.specs.Iterator.{YieldsFirstRef, item_count};
 ghost use Rattle.walk.specs.Walk.{rests};
 ghost use Rattle.walk.specs.Shown.{start_of, bytes_at, command_of, shown_of, asked_of, offset_to, offset_of, slice_of, Placed};
 
-// The longest list that is taken, in bytes.
+/// The longest list that is taken, in bytes.
 pub const LONGEST: usize = 4096;
 
+/// The sender whose list runs first, and the other.
 pub const KIT: u8 = 1;
 
 pub const PUPIL: u8 = 2;
 
-// The commands of a list in turn, each as all that is left of the list from it on.
+/// The commands of a list in turn, each as all that is left of the list from it on. A command that codes 1, 2 or 3 refuse ends the list.
 #[derive(Clone, Copy)]
 pub struct Commands<'a> {
     pub left: &'a [u8],
 }
 
 impl<'a> Commands<'a> {
+    /// All commands of a list.
     pub fn new(list: &'a [u8]) -> Commands<'a>
         ensures { result.left ≡ list.entry }
     {
@@ -61,31 +64,23 @@ fn start_of(s: &[u8], number: u32) -> usize
 fn number_asked(kit: &[u8], pupil: &[u8], sender: u8, number: u32) -> u32
     ensures { result ≡ asked_of kit.now pupil.now sender number }
 {
-    if LONGEST < kit.len() {
-        return 0;
+    match sender {
+        KIT | PUPIL if kit.len() <= LONGEST && pupil.len() <= LONGEST => number,
+        _ => 0,
     }
-    if LONGEST < pupil.len() {
-        return 0;
-    }
-    if sender == KIT {
-        return number;
-    }
-    if sender == PUPIL {
-        return number;
-    }
-    0
 }
 
-// The bytes of the command that begins at a place; the empty part at the list's start where the list has no such place.
+/// The bytes of the command that begins at a place; the empty part at the list's start where the list has no such place.
 pub fn bytes_at<'a>(s: &'a [u8], at: usize) -> &'a [u8]
     ensures result_value { result.now ≡ bytes_at s.now at }
     ensures placed { Placed s.entry result (offset_to (bytes_at s.now at) at) }
 {
     if at < s.len() {
         let end = at + wire::span(&s[at..]);
-        return &s[at..end];
+        &s[at..end]
+    } else {
+        &s[..0]
     }
-    &s[..0]
 }
 
 // The bytes of a list's command; the empty part at the list's start where it has no such command.
@@ -96,14 +91,16 @@ fn part_of<'a>(s: &'a [u8], number: u32) -> &'a [u8]
     bytes_at(s, start_of(s, number))
 }
 
-// The bytes of a reported command: a part of that sender's own list, empty where there is no such record.
+/// The bytes of a reported command, by its sender and its number in that sender's list: a part of that list, empty where there is no such record or either
+/// list has more than `LONGEST` bytes.
 pub fn shown<'a>(kit: &'a [u8], pupil: &'a [u8], sender: u8, number: u32) -> &'a [u8]
     ensures result_value { result.now ≡ shown_of kit.now pupil.now sender number }
     ensures placed { Placed (slice_of kit.entry pupil.entry sender) result (offset_of kit.now pupil.now sender number) }
 {
     let asked = number_asked(kit, pupil, sender, number);
     if sender == PUPIL {
-        return part_of(pupil, asked);
+        part_of(pupil, asked)
+    } else {
+        part_of(kit, asked)
     }
-    part_of(kit, asked)
 }

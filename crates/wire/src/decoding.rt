@@ -34,6 +34,7 @@ const MOST_WORDS: u16 = 32;
 
 const FLAG_BIT: u16 = 32768;
 
+// With it `fields_of` has a line to each layout.
 fn fields_with(first: u32, second: u32, pad: u32) -> Fields
     ensures { result ≡ fields_with first second pad }
 {
@@ -115,20 +116,18 @@ fn sum_of(s: &[u8], n: usize) -> u32
     requires { n ≤ 32 }
     ensures { result ≡ sum_of s.now n }
 {
-    if n == 1 {
-        return words::word_at(s, 0);
+    match n {
+        1 => words::word_at(s, 0),
+        2 => words::word_at(s, 0) ^ words::word_at(s, 4),
+        3 => words::word_at(s, 0) ^ words::word_at(s, 4) ^ words::word_at(s, 8),
+        _ => {
+            let mut sum: u32 = 0;
+            for i in 0..n {
+                sum ^= words::word_at(s, i * words::WORD);
+            }
+            sum
+        }
     }
-    if n == 2 {
-        return words::word_at(s, 0) ^ words::word_at(s, 4);
-    }
-    if n == 3 {
-        return words::word_at(s, 0) ^ words::word_at(s, 4) ^ words::word_at(s, 8);
-    }
-    let mut sum: u32 = 0;
-    for i in 0..n {
-        sum ^= words::word_at(s, i * words::WORD);
-    }
-    sum
 }
 
 // Codes 1 to 3: does a whole command stand at the front?
@@ -177,7 +176,7 @@ fn read_whole(s: &[u8], length: u16) -> Result<Command, Refusal>
 ///
 /// # Errors
 ///
-/// Codes 1 to 10, the first that is due in that order. Rules: "A command on the wire", "The codes".
+/// Codes 1 to 10, the first that is due in that order. Rules: "A command on the wire", "Codes, in the order they are tried".
 pub fn read_command(s: &[u8]) -> Result<Command, Refusal>
     ensures { answer_of result ≡ read_of s.now }
 {

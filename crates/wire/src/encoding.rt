@@ -43,7 +43,13 @@ fn put_two(room: &mut [u8], head: u32, one: u32, two: u32) -> Result<(), NoRoom>
 }
 
 // The whole command, its arguments laid out behind the first word and the sum behind them.
-fn put_laid_out(room: &mut [u8], layout: Layout, head: u32, first: u32, second: u32) -> Result<(), NoRoom>
+fn put_laid_out(
+    room: &mut [u8],
+    layout: Layout,
+    head: u32,
+    first: u32,
+    second: u32,
+) -> Result<(), NoRoom>
     ensures value { is_ok result ≡ has_room (closed (head ∷ packed_of layout first second)) room.old }
     ensures room_after { room.new ≡ written (closed (head ∷ packed_of layout first second)) room.old }
 {
@@ -72,7 +78,7 @@ fn write_allowed(command: Command, room: &mut [u8]) -> Result<usize, Refusal>
 ///
 /// # Errors
 ///
-/// 8, then 9 or 10, as `judge` finds them, then `Refusal::NoRoom` (24). The room is then as it was. Rules: "A command on the wire", "The codes".
+/// 8, then 9 or 10, as `judge` finds them, then `Refusal::NoRoom` (24). The room is then as it was. Rules: "A command on the wire", "Codes, in the order they are tried".
 pub fn write_command(command: Command, room: &mut [u8]) -> Result<usize, Refusal>
     ensures result_value { wrote_of result ≡ wrote_at command room.old }
     ensures room_after { room.new ≡ room_after command room.old }

@@ -17,7 +17,7 @@ pub struct Stray {
     pub high: u32,
 }
 
-/// Why a command is refused on the wire. `OutOfRange` has the first argument that is.
+/// Why a command is refused on the wire, codes 1 to 10 and 24 in their order. `OutOfRange` has the first argument that is.
 #[derive(Clone, Copy, Debug, PartialEq, Eq)]
 pub enum Refusal {
     TooFewBytes,
@@ -54,7 +54,7 @@ pub trait Tell {
 
     ghost told: { Self → Told };
 
-    /// The code of this refusal by the rules' heading "The codes", and the argument out of range where that is 8.
+    /// The code of this refusal by the rules' heading "Codes, in the order they are tried", and the argument out of range where that is 8.
     fn told(&self) -> Told
         ensures { result ≡ told self.now };
 }
@@ -169,7 +169,7 @@ pub fn judge_by(row: Row, flag: bool, first: u32, second: u32) -> Result<(), Ref
 ///
 /// # Errors
 ///
-/// `OutOfRange` (8), then 9 or 10. Rules: "A command on the wire".
+/// `OutOfRange` (8), then 9 or 10. Rules: "A command on the wire", "What is told of a number".
 pub fn judge(command: Command) -> Result<(), Refusal>
     ensures { told_judged result ≡ judged command }
 {

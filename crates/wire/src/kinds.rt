@@ -1,4 +1,4 @@
-// The decoded command, and its middle form: a form and two numbers, in which ranges, layouts and flags are rules about numbers.
+//! The decoded command, and its middle form: a form and two numbers, in which ranges, layouts and flags are rules about numbers.
 ghost use Rattle.std.specs.Prelude.{◌≡◌, ◌%◌};
 ghost use Rattle.std.specs.Float.{binary32};
 ghost use Rattle.std.specs.Float.Ieee.{of_bits, to_bits};
@@ -6,7 +6,7 @@ ghost use Rattle.wire.specs.Kind.{parts_with, parts_of, kind_of};
 
 use super::table::Form;
 
-// One kind out of fifteen with its own arguments, as they stand on the wire; they may be out of range.
+/// One kind out of fifteen with its own arguments, as they stand on the wire; they may be out of range.
 #[derive(Clone, Copy)]
 pub enum Kind {
     ImgPwr(u8),
@@ -26,15 +26,15 @@ pub enum Kind {
     Clear,
 }
 
-// A decoded command: the macro flag (true: append) and the kind.
+/// A decoded command: the macro flag (true: append) and the kind.
 #[derive(Clone, Copy)]
 pub struct Command {
     pub flag: bool,
     pub kind: Kind,
 }
 
-// The form of a command and its arguments as numbers, goals by their bits; 0 where there is no such argument.
-#[derive(Clone, Copy)]
+/// The form of a command and its arguments as numbers, goals by their bits; 0 where there is no such argument.
+#[derive(Clone, Copy, Debug, PartialEq, Eq)]
 pub struct Parts {
     pub form: Form,
     pub first: u32,
@@ -52,8 +52,7 @@ const SIGN_BIT: u32 = 0x8000_0000;
 fn bits_of(x: f32) -> u32
     ensures { result ≡ to_bits binary32 x }
 {
-    // Only a not-a-number differs from itself.
-    if x != x { NAN_BITS } else { f32::to_bits(x) }
+    if x.is_nan() { NAN_BITS } else { x.to_bits() }
 }
 
 // The single that has these bits.
@@ -61,13 +60,13 @@ fn single_of(bits: u32) -> f32
     ensures { result ≡ of_bits binary32 bits }
 {
     if INFINITY_BITS < bits % SIGN_BIT {
-        let zero: f32 = 0.0;
-        zero / zero
+        f32::NAN
     } else {
         f32::from_bits(bits)
     }
 }
 
+// With it `parts_of` has a line to each kind.
 fn parts_with(form: Form, first: u32, second: u32) -> Parts
     ensures { result ≡ parts_with form first second }
 {
@@ -78,7 +77,7 @@ fn parts_with(form: Form, first: u32, second: u32) -> Parts
     }
 }
 
-// A kind taken apart.
+/// A kind taken apart. No `From`: the way back takes more than parts say, and contracts name both by their functions.
 pub fn parts_of(kind: Kind) -> Parts
     ensures { result ≡ parts_of kind }
 {
@@ -113,7 +112,7 @@ fn cut16(x: u32) -> u16
     (x % 65536) as u16
 }
 
-// A kind put together; each argument is cut to its field's width by the remainder, a goal is the single with these bits.
+/// A kind put together; each argument is cut to its field's width by the remainder, a goal is the single with these bits.
 pub fn kind_of(form: Form, first: u32, second: u32) -> Kind
     ensures { result ≡ kind_of form first second }
 {

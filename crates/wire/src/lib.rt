@@ -1,5 +1,5 @@
-// One command: the table of commands, the decoded form, judging, reading and writing.
-// A refusal of any of these is a `Refusal`, and `told_of` gives its code and, for code 8, what was wrong with the number.
+//! One command: the table of commands, the decoded form, judging, reading and writing.
+//! A refusal of any of these is a `Refusal`, and `told_of` gives its code and, for code 8, what was wrong with the number. Rules: "A command on the wire".
 #![tactic(auto)]
 
 mod decoding;

@@ -1,4 +1,4 @@
-//! Answers: a refusal's number in the rules, and 0 for what was accepted.
+//! Answers: a refusal's number in the rules, and 0 for what was accepted. Rules: "Codes, in the order they are tried".
 ghost use Rattle.std.specs.Prelude.{◌≡◌, ℕ, ◌<◌};
 ghost use Rattle.std.proofs.Common.{rules};
 ghost use Rattle.words.specs.Codes.{answer_code};
@@ -7,13 +7,14 @@ ghost use Rattle.words.specs.Codes.{answer_code};
 pub trait Code {
     ghost code: { Self → ℕ };
 
+    /// The number, from 1 up.
     fn code(&self) -> u8
         ensures { result ≡ code self.now };
 
     ghost refuses: { (refusal : Self) → 0 < code refusal };
 }
 
-/// Too few bytes of room are left for what was to be written.
+/// Too few bytes of room are left for what was to be written (24).
 #[derive(Clone, Copy, Debug, PartialEq, Eq)]
 pub struct NoRoom;
 

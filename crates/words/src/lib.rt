@@ -1,5 +1,6 @@
 //! Big-endian numbers of 16 and 32 bits in byte slices: total readers, and writers into the front of a lent part; and text, from any place of it on.
-//! A reader takes what lies past the end for 0. A writer that has too little room leaves it untouched and says so.
+//! A reader takes what lies past the end for 0. A writer that has too little room leaves it untouched and says so. Beside them stands what refusals have in
+//! common, their codes. Rules: "Codes, in the order they are tried".
 #![tactic(auto)]
 
 ghost use Rattle.std.specs.Prelude.{is_ok, ◌+◌, ◌*◌, ◌≡◌};
@@ -16,14 +17,14 @@ pub use writer::Writer;
 /// The bytes of a 32-bit number.
 pub const WORD: usize = 4;
 
-/// The byte at a place.
+/// The byte at a place, from 0; 0 past the end.
 pub fn byte_at(s: &[u8], at: usize) -> u8
     ensures { result ≡ byte_at s.now at }
 {
     s.get(at).copied().unwrap_or(0)
 }
 
-/// The 16-bit number that begins at a place.
+/// The 16-bit number that begins at a place; its bytes past the end count as 0.
 pub fn half_at(s: &[u8], at: usize) -> u16
     ensures { result ≡ half_at s.now at }
 {
@@ -34,7 +35,7 @@ pub fn half_at(s: &[u8], at: usize) -> u16
     }
 }
 
-/// The 32-bit number that begins at a place. One that lies whole in the slice, as nearly all do, takes no test for each byte.
+/// The 32-bit number that begins at a place; its bytes past the end count as 0. One that lies whole in the slice, as nearly all do, takes no test for each byte.
 pub fn word_at(s: &[u8], at: usize) -> u32
     ensures { result ≡ word_at s.now at }
 {
@@ -54,7 +55,11 @@ pub fn word_bytes(value: u32) -> [u8; 4]
     value.to_be_bytes()
 }
 
-/// Writes bytes at the front of a room.
+/// Writes bytes at the front of a room; the rest of it stays as it was.
+///
+/// # Errors
+///
+/// `NoRoom` (24) where the room has fewer bytes; it is then as it was.
 pub fn put_bytes(room: &mut [u8], bytes: &[u8]) -> Result<(), NoRoom>
     ensures value { is_ok result ≡ has_room bytes.now room.old }
     ensures room_after { room.new ≡ written bytes.now room.old }
@@ -66,7 +71,11 @@ pub fn put_bytes(room: &mut [u8], bytes: &[u8]) -> Result<(), NoRoom>
     Ok(())
 }
 
-/// Writes a 32-bit number at the front of a room.
+/// Writes a 32-bit number at the front of a room; the rest of it stays as it was.
+///
+/// # Errors
+///
+/// `NoRoom` (24) where the room has fewer than `WORD` bytes; it is then as it was.
 pub fn put_word(room: &mut [u8], value: u32) -> Result<(), NoRoom>
     ensures value { is_ok result ≡ has_room (word_bytes value) room.old }
     ensures room_after { room.new ≡ written (word_bytes value) room.old }
@@ -74,7 +83,11 @@ pub fn put_word(room: &mut [u8], value: u32) -> Result<(), NoRoom>
     put_bytes(room, &value.to_be_bytes())
 }
 
-/// Writes several 32-bit numbers, one after another, at the front of a room.
+/// Writes several 32-bit numbers, one after another, at the front of a room; the rest of it stays as it was.
+///
+/// # Errors
+///
+/// `NoRoom` (24) where the room has fewer than `WORD` bytes for each; it is then as it was.
 pub fn put_words(room: &mut [u8], values: &[u32]) -> Result<(), NoRoom>
     ensures value { is_ok result ≡ has_room (bytes_of values.now) room.old }
     ensures room_after { room.new ≡ written (bytes_of values.now) room.old }

@@ -11,7 +11,7 @@ const TEN: u32 = 10;
 
 const ZERO: u8 = b'0';
 
-/// How many digits a number has.
+/// How many digits a number has in decimal, from 1 to 10.
 pub fn places(value: u32) -> usize
     ensures { result ≡ length (decimal value) }
 {
@@ -25,7 +25,7 @@ fn last_digit(value: u32) -> u8
     ZERO + (value % TEN) as u8
 }
 
-/// Puts a number so that it ends before a place, the last digit first.
+// Puts a number so that it ends before a place, the last digit first. The loop counts no index: it takes a digit off the number, until one is left.
 fn put_digits(room: &mut [u8], end: usize, value: u32)
     requires value_len_bound { length (decimal value) ≤ end }
     requires end_in_bounds { end ≤ length room.old }

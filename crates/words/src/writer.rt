@@ -7,7 +7,9 @@ use super::{put_at, put_decimal};
 /// A room, and the place that comes next. What has too little room is left out, whole.
 #[derive(Drop)]
 pub struct Writer<'a> {
+    /// Where the text is put.
     pub room: &'a mut [u8],
+    /// The place, from the room's front, at which the next bytes begin.
     pub at: usize,
 }
 

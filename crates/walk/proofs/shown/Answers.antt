@@ -33,16 +33,16 @@ returns-then-sender-eq-PUPIL-clause-placed c =
     (answered start.kit start.pupil c.part_of.result start.sender start.number asked.result true asked.ensures
     (eq-eqb start.sender 2 c.if-sender-eq-PUPIL.true) (c.part_of.ensures.result_value, c.part_of.ensures.placed)).1
 
-pub returns-clause-result_value : goal.returns-clause-result_value
-returns-clause-result_value c =
+pub returns-else-sender-eq-PUPIL-clause-result_value : goal.returns-else-sender-eq-PUPIL-clause-result_value
+returns-else-sender-eq-PUPIL-clause-result_value c =
     let start = c.args in
     let asked = c.number_asked-asked in
-    (answered start.kit start.pupil c.part_of-2.result start.sender start.number asked.result false asked.ensures
-    (ne_eqb start.sender 2 c.if-sender-eq-PUPIL.false) (c.part_of-2.ensures.result_value, c.part_of-2.ensures.placed)).0
+    (answered start.kit start.pupil c.part_of-else-sender-eq-PUPIL.result start.sender start.number asked.result false asked.ensures
+    (ne_eqb start.sender 2 c.if-sender-eq-PUPIL.false) (c.part_of-else-sender-eq-PUPIL.ensures.result_value, c.part_of-else-sender-eq-PUPIL.ensures.placed)).0
 
-pub returns-clause-placed : goal.returns-clause-placed
-returns-clause-placed c =
+pub returns-else-sender-eq-PUPIL-clause-placed : goal.returns-else-sender-eq-PUPIL-clause-placed
+returns-else-sender-eq-PUPIL-clause-placed c =
     let start = c.args in
     let asked = c.number_asked-asked in
-    (answered start.kit start.pupil c.part_of-2.result start.sender start.number asked.result false asked.ensures
-    (ne_eqb start.sender 2 c.if-sender-eq-PUPIL.false) (c.part_of-2.ensures.result_value, c.part_of-2.ensures.placed)).1
+    (answered start.kit start.pupil c.part_of-else-sender-eq-PUPIL.result start.sender start.number asked.result false asked.ensures
+    (ne_eqb start.sender 2 c.if-sender-eq-PUPIL.false) (c.part_of-else-sender-eq-PUPIL.ensures.result_value, c.part_of-else-sender-eq-PUPIL.ensures.placed)).1

@@ -13,10 +13,10 @@ unfolding reach_at
 returns-then-length-lt-FEWEST_WORDS c =
     rw (← c.half_at-length.ensures)
     (elim c.then-length-lt-FEWEST_WORDS.branch [
-      then-length-lt-FEWEST_WORDS-via-then-length-lt-FEWEST_WORDS w ↦
-        simp (le-ltb _ _ c.if-s-lt-SHORTEST.false, lt-ltb _ _ w.if-length-lt-FEWEST_WORDS.true)
+      | then-length-lt-FEWEST_WORDS-via-then-length-lt-FEWEST_WORDS w ↦
+          simp (le-ltb _ _ c.if-s-lt-SHORTEST.false, lt-ltb _ _ w.if-length-lt-FEWEST_WORDS.true)
       | then-length-lt-FEWEST_WORDS-via-else-length-lt-FEWEST_WORDS+then-length-gt-MOST_WORDS w ↦
-        simp (le-ltb _ _ c.if-s-lt-SHORTEST.false, le-ltb _ _ w.if-length-lt-FEWEST_WORDS.false, lt-ltb _ _ w.if-length-gt-MOST_WORDS.true)
+          simp (le-ltb _ _ c.if-s-lt-SHORTEST.false, le-ltb _ _ w.if-length-lt-FEWEST_WORDS.false, lt-ltb _ _ w.if-length-gt-MOST_WORDS.true)
     ])
 
 pub returns-then-s-length : goal.returns-then-s-length

@@ -22,21 +22,21 @@ three_words : (s : List ℕ) → sum_of s 3 ≡ bit_xor (bit_xor (word_at s 0) (
 unfolding sum_of
 three_words s = ap (λ w. bit_xor w (word_at s 8)) (two_words s)
 
-pub returns-then-n-eq1 : goal.returns-then-n-eq1
-returns-then-n-eq1 c =
+pub returns-in-1 : goal.returns-in-1
+returns-in-1 c =
     let s = c.args.s.now in
-    c.word_at.ensures ∙ sym (one_word s) ∙ ap (sum_of s) (sym c.if-n-eq1.true)
+    c.word_at.ensures ∙ sym (one_word s) ∙ ap (sum_of s) (sym c.in-1.is)
 
-pub returns-then-n-eq2 : goal.returns-then-n-eq2
-returns-then-n-eq2 c =
+pub returns-in-2 : goal.returns-in-2
+returns-in-2 c =
     let s = c.args.s.now in
-    rw (c.word_at-then-n-eq2-2.ensures, c.word_at-then-n-eq2.ensures) (sym (two_words s) ∙ ap (sum_of s) (sym c.if-n-eq2.true))
+    rw (c.word_at-in-2-2.ensures, c.word_at-in-2.ensures) (sym (two_words s) ∙ ap (sum_of s) (sym c.in-2.is))
 
-pub returns-then-n-eq3 : goal.returns-then-n-eq3
-returns-then-n-eq3 c =
+pub returns-in-3 : goal.returns-in-3
+returns-in-3 c =
     let s = c.args.s.now in
-    rw (c.word_at-then-n-eq3-3.ensures, c.word_at-then-n-eq3-2.ensures, c.word_at-then-n-eq3.ensures)
-    (sym (three_words s) ∙ ap (sum_of s) (sym c.if-n-eq3.true))
+    rw (c.word_at-in-3-3.ensures, c.word_at-in-3-2.ensures, c.word_at-in-3.ensures)
+    (sym (three_words s) ∙ ap (sum_of s) (sym c.in-3.is))
 
 pub loop-i-init : goal.loop-i-init
 unfolding sum_of
