@@ -7,7 +7,7 @@ use Rattle.valve.specs.declared.Frame.{Frame}
 use Rattle.valve.specs.declared.refusal.Refusal.{Refusal}
 use Rattle.valve.specs.declared.state.Valve.{Valve}
 use Rattle.valve.specs.Frame.{firing_code, frame_at}
-use Rattle.valve.specs.Answers.{Answer, code_of, code_of_some, read_checks, read_code, read_of}
+use Rattle.valve.specs.Answers.{Answer, code_of, read_checks, read_code, read_of}
 use Rattle.valve.specs.State.{is_armed, act_checks, Outcome, outcome_by, carry_code, carry_out}
 use Rattle.valve.proofs.Answers.{refused_with, taken_as}
 
@@ -30,7 +30,13 @@ module _ (v : Valve) (code : ℕ) where
 
 -- No refusal has code 0, and no row does.
 pub some_code : (refusal : Refusal) → code_of refusal ≢ 0
-some_code refusal e = omega (arith, e, code_of_some refusal)
+some_code Refusal.WrongSize e = omega arith
+some_code Refusal.WrongSum e = omega arith
+some_code Refusal.WrongIdentifier e = omega arith
+some_code Refusal.NotZero e = omega arith
+some_code Refusal.NoPattern e = omega arith
+some_code Refusal.NotArmed e = omega arith
+some_code Refusal.WrongCode e = omega arith
 
 coded : (s : List ℕ) → Coded (read_checks s)
 coded s = omega arith

@@ -5,7 +5,6 @@ use Rattle.valve.specs.declared.Frame.{Frame}
 use Rattle.valve.specs.declared.refusal.Refusal.{Refusal}
 use Rattle.valve.specs.declared.state.Valve.{Valve}
 use Rattle.words.specs.declared.codes.NoRoom.{NoRoom}
-use Rattle.words.specs.Codes.{answer_code}
 use Rattle.std.specs.Prelude.{Result, Ok, Err, if◌then◌else◌}
 use Rattle.valve.specs.Answers.{Answer, code_of, answer_of, wrote_of}
 use Rattle.valve.specs.State.{Outcome, outcome_of}
@@ -61,15 +60,14 @@ writing_back (Err refused) = refl
 pub one_writing : (x y : Result Unit NoRoom) → wrote_of x ≡ wrote_of y → x ≡ y
 one_writing = one_to_one wrote_of writing_of writing_back
 
--- The answer with a code.
-abbrev answer_with : ℕ → Result Unit Refusal
-answer_with code = if code == 0 then Ok tt else Err (refusal_of code)
+-- The answer with a code, and the valve that it hands back.
+abbrev answer_with : Outcome → Result Valve Refusal
+answer_with o = if o.code == 0 then Ok o.valve else Err (refusal_of o.code)
 
-answer_back : (x : Result Unit Refusal) → answer_with (answer_code code_of x) ≡ x
-answer_back (Ok x) = refl
-answer_back (Err refusal) = rw (ne_eqb (code_of refusal) 0 (some_code refusal)) (ap Err (refusal_back refusal))
+answer_back : (v : Valve) (x : Result Valve Refusal) → answer_with (outcome_of v x) ≡ x
+answer_back v (Ok left) = refl
+answer_back v (Err refusal) = rw (ne_eqb (code_of refusal) 0 (some_code refusal)) (ap Err (refusal_back refusal))
 
--- No two say the same: `carry_out` has one result, and leaves one valve.
-pub one_carried : (v w : Valve) (x y : Result Unit Refusal) → outcome_of v x ≡ outcome_of w y → (v ≡ w) × (x ≡ y)
-one_carried v w x y e =
-    (ap (λ (o : Outcome). o.valve) e, one_to_one (answer_code code_of) answer_with answer_back x y (ap (λ (o : Outcome). o.code) e))
+-- No two say the same of a valve: `carry_out` has one result.
+pub one_carried : (v : Valve) (x y : Result Valve Refusal) → outcome_of v x ≡ outcome_of v y → x ≡ y
+one_carried v = one_to_one (outcome_of v) answer_with (answer_back v)

@@ -1,6 +1,5 @@
 -- 02, Q-7, the codes of frames: "40 not 64 bytes, 41 sum, 42 identifier, 43 words 6-31 not zero, 44 neither pattern (the code apart)"; "24 in writing".
-use Rattle.std.specs.Prelude.{ℕ, ◌%◌, ◌<◌, cond, not, ◌||◌, List, [], ◌∷◌, length, ◌==◌, Result, Ok, Err}
-use Rattle.std.proofs.Common.{arith}
+use Rattle.std.specs.Prelude.{ℕ, ◌%◌, cond, not, ◌||◌, List, [], ◌∷◌, length, ◌==◌, Result, Ok, Err}
 use Rattle.words.specs.BigEndian.{has_room}
 use Rattle.words.specs.Codes.{Check, ◌when◌, first_of, answer_code}
 use Rattle.words.specs.declared.codes.NoRoom.{NoRoom}
@@ -17,16 +16,6 @@ code_of Refusal.NotZero = 43
 code_of Refusal.NoPattern = 44
 code_of Refusal.NotArmed = 45
 code_of Refusal.WrongCode = 46
-
--- No refusal has code 0.
-pub code_of_some : (refusal : Refusal) → 0 < code_of refusal
-code_of_some Refusal.WrongSize = omega arith
-code_of_some Refusal.WrongSum = omega arith
-code_of_some Refusal.WrongIdentifier = omega arith
-code_of_some Refusal.NotZero = omega arith
-code_of_some Refusal.NoPattern = omega arith
-code_of_some Refusal.NotArmed = omega arith
-code_of_some Refusal.WrongCode = omega arith
 
 -- What a reading says: a code, and the frame where it is 0.
 pub record Answer : Type 0 where

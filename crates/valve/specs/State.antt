@@ -1,7 +1,7 @@
 -- 02, Q-7, the valve: "on the state, 45 firing when not armed, 46 firing code wrong"; "Status bit 14 means armed, bits 14 and 15 fired. Arming an armed or fired
 -- valve, or firing again, changes nothing."
-use Rattle.std.specs.Prelude.{ℕ, Bool, true, false, cond, not, List, [], ◌∷◌, ◌++◌, ◌==◌, Result}
-use Rattle.words.specs.Codes.{Check, ◌when◌, first_of, answer_code}
+use Rattle.std.specs.Prelude.{ℕ, Bool, true, false, cond, not, List, [], ◌∷◌, ◌++◌, ◌==◌, Result, Ok, Err}
+use Rattle.words.specs.Codes.{Check, ◌when◌, first_of}
 use Rattle.valve.specs.declared.Act.{Act}
 use Rattle.valve.specs.declared.state.Valve.{Valve}
 use Rattle.valve.specs.declared.refusal.Refusal.{Refusal}
@@ -41,8 +41,10 @@ pub record Outcome : Type 0 where
   pub code : ℕ
   pub valve : Valve
 
-abbrev pub outcome_of : Valve → Result Unit Refusal → Outcome
-outcome_of left answer = record { code = answer_code code_of answer; valve = left }
+-- It is code 0 and the valve that was handed back; of a refusal the code, and the valve as it was.
+abbrev pub outcome_of : Valve → Result Valve Refusal → Outcome
+outcome_of v (Ok left) = record { code = 0; valve = left }
+outcome_of v (Err refusal) = record { code = code_of refusal; valve = v }
 
 -- The valve is as it was, unless the code is 0.
 abbrev pub outcome_by : ℕ → Valve → Act → Outcome

@@ -113,7 +113,11 @@ fn framed(head: u16, act: Act) -> Frame
     }
 }
 
-/// The frame that these bytes are: 40 to 44.
+/// The frame that these bytes are.
+///
+/// # Errors
+///
+/// 40 to 44, the first that is due in that order. Rules: "The gas valve".
 pub fn read_frame(s: &[u8]) -> Result<Frame, Refusal>
     ensures { answer_of result ≡ read_of s.now }
 {
@@ -182,7 +186,12 @@ fn put_frame(room: &mut [u8], head: u16, act: Act)
     words::put_at(room, next, &[0; ZEROS]);
 }
 
-/// A frame at the front of a room. Each act has an arm of its own, in which the compiler knows most of the words.
+/// Writes a frame at the front of a room; the rest of the room stays as it was. Each act has an arm of its own, in which the compiler knows most of the
+/// words.
+///
+/// # Errors
+///
+/// `NoRoom` (24) where the room has fewer than 64 bytes. It is then as it was.
 pub fn write_frame(f: Frame, room: &mut [u8]) -> Result<(), NoRoom>
     ensures result_value { wrote_of result ≡ write_code f room.old }
     ensures room_after { room.new ≡ written (frame_bytes f) room.old }

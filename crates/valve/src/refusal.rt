@@ -1,7 +1,7 @@
 //! Why a frame is refused, and the number of each reason in the rules.
 ghost use Rattle.std.specs.Prelude.{◌≡◌};
 ghost use Rattle.std.proofs.Common.{rules};
-ghost use Rattle.valve.specs.Answers.{code_of, code_of_some};
+ghost use Rattle.valve.specs.Answers.{code_of};
 
 use words::Code;
 
@@ -20,7 +20,7 @@ pub enum Refusal {
 impl Code for Refusal {
     ghost code = { code_of };
 
-    ghost refuses = { code_of_some };
+    ghost refuses = { Prim.search rules };
 
     fn code(&self) -> u8 {
         match self {
