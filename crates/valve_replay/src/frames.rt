@@ -1,5 +1,5 @@
-// The items with a frame of the valve: 01 carries one out, and the valve goes on from there; 02 reads one and, where it is taken, writes it again into a
-// lent room.
+//! The items with a frame of the valve: 01 carries one out, and the valve goes on from there; 02 reads one and, where it is taken, writes it again into a
+//! lent room.
 use super::items::State;
 use script::rooms::FILL;
 use script::{Place, output, rooms};
@@ -11,30 +11,33 @@ fn code<T, E: Code>(out: &mut [u8], used: usize, answer: &Result<T, E>) -> usize
     output::number(out, used, u64::from(words::code_of(answer)))
 }
 
-// A status word, four hex digits.
-fn status(out: &mut [u8], used: usize, word: u16) -> usize {
-    output::hex(out, used, &word.to_be_bytes())
-}
-
-fn carried_line(out: &mut [u8], used: usize, answer: &Result<(), Refusal>, valve: Valve) -> usize {
+// What a frame came to, and the status word of the valve afterwards, four hex digits.
+fn carried_line(
+    out: &mut [u8],
+    used: usize,
+    answer: &Result<Valve, Refusal>,
+    valve: Valve,
+) -> usize {
     let used = output::text(out, used, b"valve");
     let used = code(out, used, answer);
-    let used = status(out, used, valve.status());
+    let used = output::hex(out, used, &valve.status().to_be_bytes());
     output::end(out, used)
 }
 
-// 01, the bytes of a frame: `valve CODE STATUS`, with the status word of the valve afterwards.
+/// 01, the bytes of a frame: `valve CODE STATUS`, with the status word of the valve afterwards.
 pub fn carry_out(state: State, s: &[u8], out: &mut [u8]) -> State {
-    let mut valve = state.valve;
-    let place = state.place;
+    let State { valve, place } = state;
     let bytes = script::take_short(s, place.at);
     if !bytes.whole {
         return state.went_on(place.bad(out));
     }
     let answer = valve.carry_out(script::bytes(s, bytes));
+    let valve = answer.unwrap_or(valve);
     let used = carried_line(out, place.used, &answer, valve);
-    let place = place.answered(bytes.to, used);
-    State { valve, place }
+    State {
+        valve,
+        place: place.answered(bytes.to, used),
+    }
 }
 
 // The two flags as one number, 0 to 3.
@@ -58,9 +61,10 @@ fn told(out: &mut [u8], used: usize, f: Frame) -> usize {
 fn written(out: &mut [u8], used: usize, f: Frame, room: &mut [u8]) -> usize {
     let answer = valve::write_frame(f, room);
     let used = code(out, used, &answer);
-    match answer {
-        Ok(()) => output::hex(out, used, script::front(room, valve::SIZE)),
-        Err(_) => used,
+    if answer.is_ok() {
+        output::hex(out, used, script::front(room, valve::SIZE))
+    } else {
+        used
     }
 }
 
@@ -79,14 +83,13 @@ fn taken(out: &mut [u8], used: usize, bytes: &[u8], room: &mut [u8]) -> usize {
 
 fn read_line(out: &mut [u8], used: usize, bytes: &[u8], length: u8) -> usize {
     let mut room = [FILL; rooms::SHORT];
-    let length = length as usize;
     let used = output::text(out, used, b"frame");
-    let used = taken(out, used, bytes, &mut room[0..length]);
+    let used = taken(out, used, bytes, &mut room[..usize::from(length)]);
     output::end(out, used)
 }
 
-// 02, a room's length of one byte, and the bytes of a frame: `frame CODE`; where the code is 0, `frame 0 FLAGS arm CODE` or
-// `frame 0 FLAGS fire FIRECODE CODE` with the code of the writing, and the bytes.
+/// 02, a room's length of one byte, and the bytes of a frame: `frame CODE`; where the code is 0, `frame 0 FLAGS arm CODE` or
+/// `frame 0 FLAGS fire FIRECODE CODE` with the code of the writing, and the bytes.
 pub fn read(place: Place, s: &[u8], out: &mut [u8]) -> Place {
     let length = script::take(s, place.at, 1);
     let bytes = script::take_short(s, length.to);

@@ -1,5 +1,5 @@
-// Tries the gas valve by a script of items, and prints what each one answers. The program decides nothing itself: it hands the script's bytes to the
-// library and prints what that answers. The items stand in `items`; numbers of several bytes are big-endian.
+//! Tries the gas valve by a script of items, and prints what each one answers. The program decides nothing itself: it hands the script's bytes to the
+//! library and prints what that answers. The items stand in `items`; numbers of several bytes are big-endian.
 #![tactic(auto)]
 
 mod frames;
@@ -17,8 +17,7 @@ fn replay(s: &[u8], out: &mut [u8]) {
         }
         state = items::item(state, s, out);
     }
-    let place = state.place;
-    output::flush(out, place.used);
+    output::flush(out, state.place.used);
 }
 
 fn main() {
