@@ -10,4 +10,4 @@ pub one_put : (a b : Result ℕ NoRoom) → answer_of a ≡ answer_of b → a �
 one_put (Ok m) (Ok n) e = ap (λ x. Ok x.bytes) e
 one_put (Ok m) (Err f) e = absurd (omega (arith, ap (λ x. x.code) e))
 one_put (Err f) (Ok n) e = absurd (omega (arith, ap (λ x. x.code) e))
-one_put (Err (record { })) (Err (record { })) e = refl
+one_put (Err f) (Err g) e = refl

@@ -12,7 +12,6 @@ ghost use Rattle.listing.specs.Answer.{answer_of, answer_for};
 mod refusals;
 
 pub use refusals::{Numbered, Output, put_outcome, put_refusal};
-
 use words::NoRoom;
 
 // The bytes of the header, and of the longest line.
