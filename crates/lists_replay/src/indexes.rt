@@ -1,22 +1,22 @@
-// The items of an index beside a list: 03 builds one, or extends one that is handed in, into a lent room, and prints whether the rest of the room is
-// as it was; 04 looks a command up through one.
+//! The items of an index beside a list: 03 builds one, or extends one that is handed in, into a lent room, and prints whether the rest of the room is
+//! as it was; 04 looks a command up through one.
 use super::offsets;
 use script::offsets::{FILL, read};
 use script::{Place, output, rooms};
 
 fn built_lines(out: &mut [u8], used: usize, list: &[u8], old: &[u16], room: &mut [u16]) -> usize {
     let indexed = index::build(list, old, room);
-    let count = index::count_of(indexed);
+    let count = indexed.unwrap_or(0);
     let used = output::text(out, used, b"indexed");
-    let used = output::number(out, used, index::code_of(indexed) as u64);
+    let used = output::number(out, used, words::code_of(&indexed) as u64);
     let used = output::number(out, used, count as u64);
     let used = offsets::numbers(out, used, room, count);
     let used = output::end(out, used);
     offsets::rest_line(out, used, room, count)
 }
 
-// 03, a room's length in offsets, of two bytes, the offsets of an earlier index, and a list: `indexed CODE COUNT` and, where the code is 0, the
-// offsets; then `rest same`, or `rest` and the place of the first offset behind them that was changed.
+/// 03, a room's length in offsets, of two bytes, the offsets of an earlier index, and a list: `indexed CODE COUNT` and, where the code is 0, the
+/// offsets; then `rest same`, or `rest` and the place of the first offset behind them that was changed.
 pub fn build(place: Place, s: &[u8], out: &mut [u8]) -> Place {
     let length = script::take(s, place.at, 2);
     let old = offsets::take(s, length.to);
@@ -34,12 +34,12 @@ pub fn build(place: Place, s: &[u8], out: &mut [u8]) -> Place {
         place.used,
         bytes,
         &handed[..count],
-        &mut room[0..length],
+        &mut room[..length],
     );
     place.answered(list.to, used)
 }
 
-// 04, the offsets of an index, a list and a number of four bytes: `found` and the bytes, nothing behind it where there are none.
+/// 04, the offsets of an index, a list and a number of four bytes: `found` and the bytes, nothing behind it where there are none.
 pub fn look_up(place: Place, s: &[u8], out: &mut [u8]) -> Place {
     let old = offsets::take(s, place.at);
     let list = script::take_long(s, old.to);

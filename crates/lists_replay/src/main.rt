@@ -1,5 +1,5 @@
-// Tries what is done with whole lists of commands by a script of items, and prints what each one answers. The program decides nothing itself: it
-// hands the script's bytes to the libraries and prints what they answer. The items stand in `items`; numbers of several bytes are big-endian.
+//! Tries what is done with whole lists of commands by a script of items, and prints what each one answers. The program decides nothing itself: it
+//! hands the script's bytes to the libraries and prints what they answer. The items stand in `items`; numbers of several bytes are big-endian.
 #![tactic(auto)]
 
 mod cards;
@@ -13,10 +13,11 @@ use script::{Place, output};
 // Takes one item after another until the script ends or an item is bad. Each item takes a byte at least, so the script's length bounds the turns.
 fn replay(s: &[u8], out: &mut [u8]) {
     let mut place = Place::start();
-    let mut turns = s.len();
-    while 0 < turns && place.goes_on(s) {
+    for _ in s {
+        if !place.goes_on(s) {
+            break;
+        }
         place = items::item(place, s, out);
-        turns -= 1;
     }
     output::flush(out, place.used);
 }

@@ -1,14 +1,14 @@
-// Offsets of 16 bits: those that a script hands in, and lent rooms of them.
+//! Offsets of 16 bits: those that a script hands in, and lent rooms of them.
 use script::offsets::SIZE;
 use script::{Stretch, offsets, output, rooms};
 
-// The most offsets that an item hands in, and the largest room; a longer one counts as this.
+/// The most offsets that an item hands in, and the largest room; a longer one counts as this.
 pub const MOST: usize = 600;
 
 // The bytes of the number of offsets that stands before them.
 const HEAD: usize = 2;
 
-// Offsets behind their number. Where they are more than the most, the script counts as one that does not have them.
+/// Offsets behind their number. Where they are more than the most, the script counts as one that does not have them.
 pub fn take(s: &[u8], at: usize) -> Stretch {
     let head = script::take(s, at, HEAD);
     if !head.whole {
@@ -21,22 +21,16 @@ pub fn take(s: &[u8], at: usize) -> Stretch {
     script::take(s, head.to, count * SIZE)
 }
 
-fn wide(offset: u16) -> u64 {
-    offset as u64
-}
-
-// The first so many offsets of a room, in decimal.
+/// The first so many offsets of a room, in decimal.
 pub fn numbers(out: &mut [u8], used: usize, room: &[u16], count: usize) -> usize {
     let mut next = used;
-    let mut i: usize = 0;
-    while i < count && i < room.len() {
-        next = output::number(out, next, wide(room[i]));
-        i += 1;
+    for &offset in room.iter().take(count) {
+        next = output::number(out, next, offset as u64);
     }
     next
 }
 
-// `rest same`, or `rest` and the place of the first offset from this place on that was changed.
+/// `rest same`, or `rest` and the place of the first offset from this place on that was changed.
 pub fn rest_line(out: &mut [u8], used: usize, room: &[u16], from: usize) -> usize {
     rooms::rest(out, used, offsets::first_changed(room, from), room.len())
 }
