@@ -1,16 +1,16 @@
-// The camera's fields and its two series of images: what an executed command sets, which one asks for pictures in the dark, what a second does, and
-// how many pictures a series takes. Macro commands are not the camera's: executing one leaves it as it is.
+//! The camera's fields and its two series of images: what an executed command sets, which one asks for pictures in the dark, what a second does, and how
+//! many pictures a series takes. Macro commands are not the camera's: executing one leaves it as it is.
 #![tactic(auto)]
 
-ghost use Rattle.std.specs.Prelude.{◌≡◌, not, ◌&&◌, nat_lt};
+ghost use Rattle.std.specs.Prelude.{◌≡◌};
 ghost use Rattle.camera.specs.Series.{fresh_series, started_of, time_after, second_of, next_holds};
-ghost use Rattle.camera.specs.Camera.{fresh_camera, with_series, with_region, with_goal, with_modes, with_flushes, executed_of, camera_second, dark};
+ghost use Rattle.camera.specs.Camera.{fresh_camera, executed_of, camera_second, dark};
 ghost use Rattle.camera.specs.Pictures.{counted_seconds, rounded_up, pictures_of};
 
 use wire::Kind;
 
-// A series of images: the seconds that it still runs, the interval, the seconds to the next image, the images so far.
-#[derive(Clone, Copy)]
+/// A series of images: the seconds that it still runs, 65535 of them for ever, the interval in seconds, the seconds to the next image, the images so far.
+#[derive(Clone, Copy, Debug, PartialEq, Eq)]
 pub struct Series {
     pub time: u16,
     pub interval: u16,
@@ -28,10 +28,7 @@ fn time_after(time: u16) -> u16
     if time == FOR_EVER {
         return FOR_EVER;
     }
-    if time == 0 {
-        return 0;
-    }
-    time - 1
+    time.saturating_sub(1)
 }
 
 impl Series {
@@ -59,6 +56,7 @@ impl Series {
     }
 
     // What one second does.
+    #[tactic(auto, unfolding(crate::specs::Series::second_of))]
     fn second(self) -> Series
         ensures { result ≡ second_of self }
     {
@@ -69,36 +67,29 @@ impl Series {
         if self.next <= 1 {
             Series {
                 time,
-                interval: self.interval,
                 next: self.interval,
-                count: std::num::wrapping_add_u16(self.count, 1),
+                count: self.count.wrapping_add(1),
+                ..self
             }
         } else {
             Series {
                 time,
-                interval: self.interval,
                 next: self.next - 1,
-                count: self.count,
+                ..self
             }
         }
     }
 
-    // Is the next image due within the interval, wherever the series runs?
+    /// Is the next image due within the interval, wherever the series runs? Rules: "Sound states".
     pub fn is_paced(self) -> bool
         ensures { result ≡ next_holds self }
     {
-        if self.time == 0 {
-            return true;
-        }
-        if self.next < 1 {
-            return false;
-        }
-        self.next <= self.interval
+        self.time == 0 || (1 <= self.next && self.next <= self.interval)
     }
 }
 
-// The fields that executed commands set.
-#[derive(Clone, Copy)]
+/// The fields that executed commands set. The goal's numbers are the bits of its singles.
+#[derive(Clone, Copy, Debug, PartialEq, Eq)]
 pub struct Camera {
     pub image: Series,
     pub track: Series,
@@ -114,13 +105,13 @@ pub struct Camera {
 }
 
 impl Camera {
+    /// A camera to which nothing was sent yet: all numbers are 0 but the intervals, which are 1. Rules: "Fresh".
     pub fn fresh() -> Camera
         ensures { result ≡ fresh_camera }
     {
-        let series = Series::fresh();
         Camera {
-            image: series,
-            track: series,
+            image: Series::fresh(),
+            track: Series::fresh(),
             x: 0,
             y: 0,
             xgoal: 0,
@@ -133,126 +124,73 @@ impl Camera {
         }
     }
 
-    fn with_image(mut self, image: Series) -> Camera
-        ensures { result ≡ with_series self image self.track }
-    {
-        self.image = image;
-        self
-    }
-
-    fn with_track(mut self, track: Series) -> Camera
-        ensures { result ≡ with_series self self.image track }
-    {
-        self.track = track;
-        self
-    }
-
-    fn with_region(mut self, x: u16, y: u16) -> Camera
-        ensures { result ≡ with_region self x y }
-    {
-        self.x = x;
-        self.y = y;
-        self
-    }
-
-    fn with_goal(mut self, xgoal: u32, ygoal: u32) -> Camera
-        ensures { result ≡ with_goal self xgoal ygoal }
-    {
-        self.xgoal = xgoal;
-        self.ygoal = ygoal;
-        self
-    }
-
-    fn with_modes(mut self, power: bool, auto: bool, looping: bool, algorithm: u8) -> Camera
-        ensures { result ≡ with_modes self power auto looping algorithm }
-    {
-        self.power = power;
-        self.auto = auto;
-        self.looping = looping;
-        self.algorithm = algorithm;
-        self
-    }
-
-    fn with_flushes(mut self, flushes: u8) -> Camera
-        ensures { result ≡ with_flushes self flushes }
-    {
-        self.flushes = flushes;
-        self
-    }
-
-    // An executed command takes effect at once.
+    /// The camera after an executed command, which takes effect at once. Rules: "Bench, seconds and macros".
     pub fn executed(self, kind: Kind) -> Camera
         ensures { result ≡ executed_of self kind }
     {
-        let image = self.image;
-        let track = self.track;
-        let power = self.power;
-        let auto = self.auto;
-        let looping = self.looping;
-        let algorithm = self.algorithm;
         match kind {
-            Kind::ImgPwr(mode) => self.with_modes(mode == 1, auto, looping, algorithm),
-            Kind::ImgRegion(x, y) => self.with_region(x, y),
-            Kind::ImgTrack(time, interval) => self.with_track(track.started(time, interval)),
-            Kind::TrkAlg(mode) => self.with_modes(power, auto, looping, mode),
-            Kind::TrkLoop(mode) => self.with_modes(power, auto, mode == 1, algorithm),
-            Kind::ImgImage(time, interval) => self.with_image(image.started(time, interval)),
+            Kind::ImgPwr(mode) => Camera {
+                power: mode == 1,
+                ..self
+            },
+            Kind::ImgRegion(x, y) => Camera { x, y, ..self },
+            Kind::ImgTrack(time, interval) => Camera {
+                track: self.track.started(time, interval),
+                ..self
+            },
+            Kind::TrkAlg(mode) => Camera {
+                algorithm: mode,
+                ..self
+            },
+            Kind::TrkLoop(mode) => Camera {
+                looping: mode == 1,
+                ..self
+            },
+            Kind::ImgImage(time, interval) => Camera {
+                image: self.image.started(time, interval),
+                ..self
+            },
+            // A goal may be a not-a-number, of which `to_bits` says nothing; `parts_of` gives its bits.
             Kind::TrkGoal(_, _) => {
                 let goal = wire::parts_of(kind);
-                self.with_goal(goal.first, goal.second)
+                Camera {
+                    xgoal: goal.first,
+                    ygoal: goal.second,
+                    ..self
+                }
             }
-            Kind::TlmFlush => self.with_flushes(std::num::wrapping_add_u8(self.flushes, 1)),
-            Kind::FlushAuto(mode) => self.with_modes(power, mode == 1, looping, algorithm),
-            Kind::Open(_) => self,
-            Kind::Close => self,
-            Kind::Run(_) => self,
-            Kind::Wait(_) => self,
-            Kind::Stop => self,
-            Kind::Clear => self,
+            Kind::TlmFlush => Camera {
+                flushes: self.flushes.wrapping_add(1),
+                ..self
+            },
+            Kind::FlushAuto(mode) => Camera {
+                auto: mode == 1,
+                ..self
+            },
+            Kind::Open(_) | Kind::Close | Kind::Run(_) | Kind::Wait(_) | Kind::Stop | Kind::Clear =>
+                self,
         }
     }
 
-    // The first of the two things that a second does.
+    /// The camera after the first of the two things that a second does: each series takes its step. Rules: "One second".
     pub fn second(self) -> Camera
         ensures { result ≡ camera_second self }
     {
-        let image = self.image;
-        let track = self.track;
-        let next = self.with_image(image.second());
-        next.with_track(track.second())
+        Camera {
+            image: self.image.second(),
+            track: self.track.second(),
+            ..self
+        }
     }
 }
 
-// Are pictures asked for so long, with the power off? With a time of 0 none are: it ends a series.
-fn is_unlit(power: bool, time: u16) -> bool
-    ensures { result ≡ (nat_lt 0 time && not power) }
-{
-    if power {
-        return false;
-    }
-    0 < time
-}
-
-// Does this command ask for pictures with the power off?
+/// Does this command ask for pictures with the power off? With a time of 0 none are asked for: it ends a series. Rules: "Pictures in the dark".
 pub fn is_dark(power: bool, kind: Kind) -> bool
     ensures { result ≡ dark power kind }
 {
     match kind {
-        Kind::ImgPwr(_) => false,
-        Kind::ImgRegion(_, _) => false,
-        Kind::ImgTrack(time, _) => is_unlit(power, time),
-        Kind::TrkAlg(_) => false,
-        Kind::TrkLoop(_) => false,
-        Kind::ImgImage(time, _) => is_unlit(power, time),
-        Kind::TrkGoal(_, _) => false,
-        Kind::TlmFlush => false,
-        Kind::FlushAuto(_) => false,
-        Kind::Open(_) => false,
-        Kind::Close => false,
-        Kind::Run(_) => false,
-        Kind::Wait(_) => false,
-        Kind::Stop => false,
-        Kind::Clear => false,
+        Kind::ImgTrack(time, _) | Kind::ImgImage(time, _) => 0 < time && !power,
+        _ => false,
     }
 }
 
@@ -263,11 +201,7 @@ fn counted_seconds(time: u16, seconds: u32) -> u32
     if time == FOR_EVER {
         return seconds;
     }
-    let all = time as u32;
-    if seconds <= all {
-        return seconds;
-    }
-    all
+    seconds.min(u32::from(time))
 }
 
 // Seconds divided by an interval, rounded up; 0 where there is no interval.
@@ -277,16 +211,12 @@ fn rounded_up(seconds: u32, interval: u32) -> u32
     if interval == 0 {
         return 0;
     }
-    let whole = seconds / interval;
-    if seconds % interval == 0 {
-        return whole;
-    }
-    whole + 1
+    seconds.div_ceil(interval)
 }
 
-// How many pictures a series takes in so many seconds, from the moment when it was started with this time and interval.
+/// How many pictures a series takes in so many seconds, from the moment when it was started with this time and interval. Rules: "How many pictures".
 pub fn pictures(time: u16, interval: u16, seconds: u32) -> u32
     ensures { result ≡ pictures_of time interval seconds }
 {
-    rounded_up(counted_seconds(time, seconds), interval as u32)
+    rounded_up(counted_seconds(time, seconds), u32::from(interval))
 }
