@@ -1,41 +1,36 @@
 -- Behind the functions that read a stored list: the raw commands turn by turn, and what is answered behind the last.
 use Prim.Native.Nat.{ℕ, suc, ◌+◌, ◌-◌, ◌≤◌, ◌<◌}
-use mathlib.Core.Path.{◌≡◌, refl, sym, ap, subst, ◌∙◌}
-use mathlib.Core.Logic.{◌≢◌}
+use mathlib.Core.Path.{◌≡◌, refl, sym, ap, ◌∙◌}
 use mathlib.Core.List.{List, [], ◌∷◌, ◌++◌, append_assoc, append-nil}
-use mathlib.Core.Bool.{Bool, true, false, cond, not}
+use mathlib.Core.Bool.{Bool, true, false, cond}
 use native.Mathlib.Omega.{arith}
 use native.Mathlib.Numerals.{add-one}
 use lib.ListN.{length, take, drop, length-append, length-drop, take-append-drop}
 use lib.Seq.{sets, length-sets}
 use lib.Dec.{leb, ltb}
-use borrow.Author.Tests.{le-leb, lt-leb, lt-ltb, le-ltb, leb-true, leb-false, ltb-true, ltb-false, eq-eqb, ne_eqb, not-true, not-false}
+use borrow.Author.Tests.{le-leb, le-ltb, leb-true, leb-false, ltb-true, ltb-false}
 use borrow.Rule.Slice.PartMut.{put_mid}
-use Rattle.words.specs.BigEndian.{written, has_room}
+use Rattle.words.specs.BigEndian.{written}
 use Rattle.words.proofs.Front.{Bytes}
 use Rattle.words.proofs.Laws.{without_room, part_written}
 use Rattle.words.proofs.Stores.{front_more}
 use Rattle.wire.specs.declared.kinds.Command.{Command}
 use Rattle.wire.specs.Kind.{parts_of}
-use Rattle.wire.specs.Judge.{plain, judge_code}
+use Rattle.wire.specs.Judge.{judge_code}
 use Rattle.wire.specs.Write.{command_bytes, list_bytes, room_after}
 use Rattle.wire.proofs.Lengths.{length_command, row_words_most}
 use Rattle.wire.proofs.Writes.{allowed}
 use Rattle.card.specs.declared.answers.Fault.{Fault}
-use Rattle.card.specs.declared.answers.Refused.{Refused}
 use Rattle.std.specs.Prelude.{Result, Ok, Err}
 use Rattle.card.specs.Command.{command_at}
-use Rattle.card.specs.List.{Said, bad, next_said, said_from, count_at, head_then, stored_says}
-use Rattle.card.specs.Answers.{told_fault, Moved, answer, raw_by, from_card}
-use Rattle.card.specs.Steps.{of_none, no_room, got_of, end_after, buffer_after, Kept, All, AsSaid}
+use Rattle.card.specs.List.{Said, bad, next_said, said_from}
+use Rattle.card.specs.Answers.{told_fault}
+use Rattle.card.specs.Steps.{got_of, end_after, buffer_after, Kept, All}
 use Rattle.card.proofs.Stores.{part_sets}
 use Rattle.card.proofs.Commands.{TakenCommand, taken_command}
-use Rattle.card.proofs.Packing.{behind, behind_more, behind-said, behind-bad, Answers}
+use Rattle.card.proofs.Packing.{behind, behind_more, behind-said, behind-bad}
 
 -- A command put behind the first so many bytes.
-pub put_over : (c : Command) (pos : ℕ) (buffer : List ℕ) → 4096 < pos → 4096 ≡ length buffer → (pos ≡ end_after c pos) × (buffer ≡ buffer_after c pos buffer)
-put_over c pos buffer h long = (rw (lt-ltb 4096 pos h), rw (lt-leb (pos + length (command_bytes c)) (length buffer) (omega arith)))
-
 pub put_in : (c : Command) (pos n : ℕ) (buffer part : List ℕ) → pos ≤ 4096 → 4096 ≡ length buffer → judge_code c ≡ 0 → n ≡ length (command_bytes c)
     → part ≡ room_after c (take (length buffer - pos) (drop pos buffer))
     → (pos + n ≡ end_after c pos) × (put_mid pos (length buffer - pos) buffer part ≡ buffer_after c pos buffer)
@@ -165,62 +160,3 @@ module _ (s : List ℕ) (count start : ℕ) (buffer : List ℕ) (at pos i : ℕ)
   all_gathered end =
       let none : count - i ≡ 0 = omega arith in
       record { cs = so_far.done; is = so_far.whole ∙ rw none (behind-said so_far.done at); kept = so_far.kept }
-
--- What is answered behind the last command.
-module _ (size : ℕ) (x : Said) (room : List ℕ) where
-  pub end_bad : (why : Refused) → x ≡ bad why.number (told_fault why.fault) → Answers (Err why) room (raw_by size x room)
-  end_bad why e = rw e (refl, refl)
-
-  module _ (pos end : ℕ) (buffer : List ℕ) (all : All x pos end buffer) where
-    pub end_over : end ≢ size → Answers (Err (of_none Fault.LeftOver)) room (raw_by size x room)
-    end_over h = rw (all.is, ne_eqb end size h) (refl, refl)
-
-    module _ (whole : end ≡ size) where
-      pub end_long : 4096 < pos → Answers (Err (of_none Fault.TooLong)) room (raw_by size x room)
-      end_long h = rw (all.is, eq-eqb end size whole, lt-ltb 4096 (length (list_bytes all.cs)) (all.kept.over h)) (refl, refl)
-
-      module _ (short : pos ≤ 4096) (fits : Bool) (is_fits : fits ≡ has_room (take pos buffer) room)
-          (room' : List ℕ) (put : room' ≡ written (take pos buffer) room) where
-        abbrev raw : List ℕ
-        raw = list_bytes all.cs
-
-        size_is : pos ≡ length raw
-        size_is = all.kept.exact short
-
-        room_is : fits ≡ has_room raw room
-        room_is = is_fits ∙ ap (λ l. has_room l room) (all.kept.front short)
-
-        now : room' ≡ written raw room
-        now = put ∙ ap (λ l. written l room) (all.kept.front short)
-
-        fine : ltb 4096 (length raw) ≡ false
-        fine = le-ltb 4096 (length raw) (omega (arith, size_is))
-
-        pub end_full : fits ≡ false → Answers (Err no_room) room' (raw_by size x room)
-        end_full full =
-            let none : has_room raw room ≡ false = sym room_is ∙ full in
-            rw (all.is, eq-eqb end size whole, fine, none) (refl, now ∙ rw none)
-
-        pub end_done : fits ≡ true → Answers (Ok pos) room' (raw_by size x room)
-        end_done enough =
-            let some : has_room raw room ≡ true = sym room_is ∙ enough in
-            rw (all.is, eq-eqb end size whole, fine, some) (ap (λ k. answer (plain 0) 0 k) size_is, now ∙ rw some)
-
--- What was gathered, by the code's answer.
-pub as_said : (g h : Result (ℕ × ℕ) Refused) (x : Said) (buffer : List ℕ) → g ≡ h → AsSaid g x buffer → AsSaid h x buffer
-as_said g h x buffer e a = subst (λ k. AsSaid k x buffer) e a
-
--- The first two numbers, and what follows from them.
-module _ (s room : List ℕ) (n : Result (ℕ × ℕ) Fault) (is_n : got_of n ≡ count_at s) where
-  head_is : (k : Result (ℕ × ℕ) Fault) → n ≡ k → head_then (got_of k) (λ count at. said_from count 1 s at) ≡ stored_says s
-  unfolding stored_says
-  head_is k e = ap (λ m. head_then m (λ count at. said_from count 1 s at)) (ap got_of (sym e) ∙ is_n)
-
-  pub card_bad : (fault : Fault) → n ≡ Err fault → Answers (Err (of_none fault)) room (from_card s room)
-  unfolding from_card
-  card_bad fault e = rw (← head_is (Err fault) e) (refl, refl)
-
-  pub card_said : (count at : ℕ) → n ≡ Ok (count, at) → (moved : Moved) (room' : List ℕ)
-      → Answers moved room' (raw_by (length s) (said_from count 1 s at) room) → Answers moved room' (from_card s room)
-  unfolding from_card
-  card_said count at e moved room' answered = rw (← head_is (Ok (count, at)) e) answered

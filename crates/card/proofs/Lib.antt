@@ -14,7 +14,6 @@ pub mod Lists
 pub mod Coded
 pub mod Readings
 pub mod Numbers
-pub mod Arms
 pub mod Stores
 pub mod Packing
 pub mod Gathering

@@ -1,19 +1,17 @@
 -- Behind the functions of one number: its groups summed from the front, one turn to each, and its groups written.
 use Prim.Native.Nat.{ℕ, zero, suc, ◌+◌, ◌*◌, ◌/◌, ◌%◌, ◌-◌, ◌^◌, ◌≤◌, ◌<◌}
 use mathlib.Core.Path.{◌≡◌, refl, sym, ap, subst, ◌∙◌}
-use mathlib.Core.Logic.{◌≢◌, ◌⊎◌, inl, inr}
 use mathlib.Core.List.{List, [], ◌∷◌}
-use mathlib.Core.Bool.{Bool, true, false, cond, ◌&&◌}
+use mathlib.Core.Bool.{Bool, true, false, cond}
 use native.Mathlib.Omega.{arith}
 use native.Mathlib.Nat.{pow-suc, pow-le-pow_right, mul_assoc, add-mul, mul-le-mul_right}
 use native.Mathlib.Numerals.{add-one}
 use lib.ListN.{length, get_or, take, drop, length-drop, set}
 use lib.Seq.{drop-cons, drop-drop, get_or-drop, length-take-le, sets}
-use lib.Dec.{ltb, eqb}
-use borrow.Author.Tests.{le-leb, lt-leb, lt-ltb, le-ltb, eq-eqb, ne_eqb, leb-true, leb-false}
+use borrow.Author.Tests.{le-leb, lt-leb, lt-ltb, le-ltb, leb-true, leb-false}
 use Rattle.words.proofs.Laws.{Storing, none_stored, one_stored, all_stored}
 use Rattle.wire.specs.Judge.{plain}
-use Rattle.card.specs.Reading.{got, refused}
+use Rattle.card.specs.Reading.{refused}
 use Rattle.card.specs.Number.{groups_in, number_bytes, run_of, value_of, said_in, endless, number_in, number_at}
 use Rattle.card.specs.Steps.{longer_as, closed_as}
 use Rattle.card.proofs.Groups.{value_small, number_endless, number_overlong, long_overlong, groups_some}
@@ -102,6 +100,7 @@ module _ (s : List ℕ) (at i : ℕ) (so_far : Passing s at i) where
         let place : at + (i - at) ≡ i = omega (arith, so_far.order) in
         get_or-drop at s (i - at) 0 ∙ ap (λ j. get_or s j 0) place
 
+    -- A turn of a loop with this invariant stands at a byte that is looked at.
     pub left_to_see : i - at < visited (drop at s)
     left_to_see = run_left (drop at s) (i - at) so_far.run inside
 
@@ -131,9 +130,6 @@ module _ (s : List ℕ) (at i : ℕ) (so_far : Passing s at i) where
       let ends : endless (drop at s) ≡ false =
       lt-leb (length (drop at s)) (run_of (drop at s)) (omega (arith, inside s at i so_far more, last_passed s at i so_far more low)) in
       rw ends
-
-  pub long_endless : length s ≤ i → refused (plain 34) ≡ longer_as s at
-  long_endless end = rw (none_left s at i so_far end)
 
 -- The groups from a place on, up to another, were summed.
 pub record Summing (s : List ℕ) (at value scale i : ℕ) : Type 0 where
@@ -230,26 +226,6 @@ module _ (s : List ℕ) (at value scale i : ℕ) (so_far : Summing s at value sc
   -- No group without the high bit.
   pub none_ended : length s ≤ i → refused (plain 34) ≡ number_at s at
   none_ended end = sym (number_endless rest at (none_left s at i so_far.passing end))
-
--- What `closed` answers.
-module _ (value last before end : ℕ) where
-  pub closed_needless : last ≡ 0 → 0 < before → refused (plain 35) ≡ closed_as value last before end
-  closed_needless z some = rw (eq-eqb last 0 z, lt-ltb 0 before some)
-
-  pub not_spare : (last ≢ 0) ⊎ (before ≤ 0) → (eqb last 0 && ltb 0 before) ≡ false
-  not_spare (inl some) = rw (ne_eqb last 0 some)
-  not_spare (inr none) = rw (le-ltb 0 before none) (go (eqb last 0))
-    where
-      go : (b : Bool) → (b && false) ≡ false
-      go true = refl
-      go false = refl
-
-  module _ (needed : (eqb last 0 && ltb 0 before) ≡ false) where
-    pub closed_wide : 0xffffffff < value → refused (plain 35) ≡ closed_as value last before end
-    closed_wide wide = rw (needed, lt-ltb 0xffffffff value wide)
-
-    pub closed_taken : value ≤ 0xffffffff → got value end ≡ closed_as value last before end
-    closed_taken fits = rw (needed, le-ltb 0xffffffff value fits)
 
 -- The groups of a number: more than one, the first of them; and the last.
 groups_more : (k v : ℕ) → 128 ≤ v → v < 128 ^ suc k → (0 < k) × (groups_in k v ≡ (v % 128 + 128) ∷ groups_in (k - 1) (v / 128)) × (v / 128 < 128 ^ suc (k - 1))

@@ -1,5 +1,5 @@
 -- How much of a stored list is looked at: each byte once at most. A number is read by `number_at`, whose loop has one turn for each byte
--- that it looks at (its measure is how many of them are left); and each number begins where the one before it ended.
+-- that it looks at (`left_to_see`, of its invariant: a turn stands before the last of them); and each number begins where the one before it ended.
 use Prim.Native.Nat.{ℕ, zero, suc, ◌+◌, ◌-◌, ◌≤◌}
 use mathlib.Core.Path.{◌≡◌, refl, sym}
 use mathlib.Core.List.{List}

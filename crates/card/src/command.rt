@@ -11,6 +11,7 @@ use super::number::number_at;
 use wire::{Command, Form, Layout, Refusal, Stray};
 
 // The argument of a parameter, 1 or 2, with its limits; 0 where the layout has none.
+#[tactic(auto, unfolding(crate::specs::Command::argument_at))]
 fn argument_at(
     s: &[u8],
     at: usize,
@@ -37,6 +38,7 @@ fn argument_at(
 }
 
 // Both arguments of a form, 0 for one that it does not have, and the place behind them.
+#[tactic(auto, unfolding(crate::specs::Command::arguments_at))]
 fn arguments_at(s: &[u8], at: usize, form: Form) -> Result<(u32, u32, usize), Fault>
     ensures { got_arguments form result ≡ arguments_at s.now at form }
 {
@@ -47,6 +49,7 @@ fn arguments_at(s: &[u8], at: usize, form: Form) -> Result<(u32, u32, usize), Fa
 }
 
 // The flag: 0 or 1.
+#[tactic(auto, unfolding(crate::specs::Command::flag_at))]
 fn flag_at(s: &[u8], at: usize) -> Result<(u32, usize), Fault>
     ensures { got_of result ≡ flag_at s.now at }
 {
@@ -58,6 +61,7 @@ fn flag_at(s: &[u8], at: usize) -> Result<(u32, usize), Fault>
 }
 
 // Behind the last number: the flag by the form's rule.
+#[tactic(auto, using(wire::proofs::Answers::refusal_code), unfolding(crate::specs::Command::flagged))]
 fn flagged(
     form: Form,
     flag: bool,
@@ -74,6 +78,7 @@ fn flagged(
 }
 
 // Behind the opcode: the flag, then the arguments.
+#[tactic(auto, unfolding(crate::specs::Command::behind_opcode))]
 fn behind_opcode(s: &[u8], at: usize, form: Form) -> Result<(Command, usize), Fault>
     ensures { got_of result ≡ behind_opcode s.now at form }
 {
@@ -93,6 +98,7 @@ fn rule_for(opcode: u32) -> Option<(Form, u16)>
 }
 
 // The command that begins at a place, and the place behind it.
+#[tactic(auto, unfolding(crate::specs::Command::command_at))]
 pub fn command_at(s: &[u8], at: usize) -> Result<(Command, usize), Fault>
     ensures { got_of result ≡ command_at s.now at }
 {

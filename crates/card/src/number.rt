@@ -14,19 +14,13 @@ const MOST_BEFORE: usize = 4;
 
 const LARGEST: u64 = 0xffff_ffff;
 
-// A byte as a wide number.
-fn wide(byte: u8) -> u64
-    ensures { result ≡ byte }
-{
-    byte as u64
-}
-
 // A number of more groups than it may have, whose next one stands at a place: 35, or 34 where it does not end.
 fn longer(s: &[u8], at: usize) -> Result<(u32, usize), Fault>
     ensures { got_of result ≡ longer_as s.now at }
 {
     for i in at..s.len() {
-        if wide(s[i]) < MORE {
+        let group = s[i] as u64;
+        if group < MORE {
             return Err(Fault::Overlong);
         }
     }
@@ -50,7 +44,7 @@ pub fn number_at(s: &[u8], at: usize) -> Result<(u32, usize), Fault>
     let mut value: u64 = 0;
     let mut scale: u64 = 1;
     for i in at..s.len() {
-        let group = wide(s[i]);
+        let group = s[i] as u64;
         if group < MORE {
             return closed(value + group * scale, group, i - at, i + 1);
         }

@@ -9,10 +9,11 @@ ghost use Rattle.card.specs.Steps.{got_of, end_after, buffer_after, AsSaid};
 use super::answers::{Fault, Refused};
 use super::command::command_at;
 use super::number::number_at;
-use super::storing::{FIRST, list_room};
+use super::storing::FIRST;
 use wire::Command;
 
 // How many bytes a command has on the wire.
+#[tactic(auto, using(wire::proofs::Lengths::length_command))]
 fn command_length(command: Command) -> usize
     ensures { result ≡ length (command_bytes command) }
 {
@@ -22,6 +23,7 @@ fn command_length(command: Command) -> usize
 }
 
 // Puts an allowed command behind the first so many bytes of a buffer, and says how many there are then. Once they are too many they stay as they are.
+#[tactic(auto, using(crate::proofs::Gathering::command_few))]
 fn put_behind(command: Command, buffer: &mut [u8], pos: usize) -> usize
     requires command_value { judge_code command ≡ 0 }
     requires value { 4096 ≡ length buffer.old }
@@ -56,6 +58,7 @@ fn gather(s: &[u8], start: usize, count: u32, buffer: &mut [u8]) -> Result<(usiz
 }
 
 // The first number, which must be 1.
+#[tactic(auto, unfolding(crate::specs::List::first_at))]
 fn first_of(s: &[u8]) -> Result<(u32, usize), Fault>
     ensures { got_of result ≡ first_at s.now }
 {
@@ -67,6 +70,7 @@ fn first_of(s: &[u8]) -> Result<(u32, usize), Fault>
 }
 
 // The number of commands, behind the first number.
+#[tactic(auto, unfolding(crate::specs::List::count_at))]
 fn count_of(s: &[u8]) -> Result<(u32, usize), Fault>
     ensures { got_of result ≡ count_at s.now }
 {
@@ -79,7 +83,7 @@ fn commands_behind(s: &[u8], at: usize, count: u32, room: &mut [u8]) -> Result<u
     ensures result_value { answer_of result ≡ (raw_by (length s.now) (said_from count 1 s.now at) room.old).answer }
     ensures room_after { room.new ≡ (raw_by (length s.now) (said_from count 1 s.now at) room.old).room }
 {
-    let mut buffer = list_room();
+    let mut buffer = [0; walk::LONGEST];
     let (pos, end) = gather(s, at, count, &mut buffer)?;
     if end != s.len() {
         return Err(Fault::LeftOver.into());
@@ -91,6 +95,7 @@ fn commands_behind(s: &[u8], at: usize, count: u32, room: &mut [u8]) -> Result<u
     Ok(pos)
 }
 
+#[tactic(auto, unfolding(crate::specs::Answers::from_card, crate::specs::List::stored_says))]
 /// Writes the raw list that a stored one says at the front of a room, and says how many bytes it has; the rest of the room stays as it was.
 ///
 /// # Errors

@@ -3,7 +3,7 @@
 ghost use Rattle.std.specs.Prelude.{◌+◌, ◌≤◌, ◌≡◌, ◌++◌, length};
 ghost use Rattle.std.proofs.lemmas.List.Edits.{sets};
 ghost use Rattle.card.specs.Number.{number_bytes};
-ghost use Rattle.card.specs.Command.{arguments_in, numbers_bytes, stored_command};
+ghost use Rattle.card.specs.Command.{numbers_bytes, stored_command};
 ghost use Rattle.card.specs.List.{raw_says};
 ghost use Rattle.card.specs.Answers.{answer_of, to_card};
 ghost use Rattle.card.specs.Steps.{AsPacked};
@@ -26,6 +26,7 @@ const THREE_GROUPS: u32 = 2_097_152;
 const FOUR_GROUPS: u32 = 268_435_456;
 
 // How many bytes a number takes.
+#[tactic(auto, unfolding(crate::specs::Number::groups_in, crate::specs::Number::number_bytes))]
 fn number_length(value: u32) -> usize
     ensures { result ≡ length (number_bytes value) }
 {
@@ -59,23 +60,20 @@ fn put_number(room: &mut [u8], at: usize, value: u32) -> usize
     i + 1
 }
 
-// Writes so many of two arguments into a room, from a place on, and says which place comes next.
-fn put_arguments(room: &mut [u8], at: usize, many: usize, first: u32, second: u32) -> usize
-    requires { at + length (numbers_bytes (arguments_in many first second)) ≤ length room.old }
-    ensures value { result ≡ at + length (numbers_bytes (arguments_in many first second)) }
-    ensures room_after { room.new ≡ sets room.old at (numbers_bytes (arguments_in many first second)) }
+// Writes numbers into a room, one behind the other, from a place on, and says which place comes next.
+fn put_numbers(room: &mut [u8], at: usize, numbers: &[u32]) -> usize
+    requires { at + length (numbers_bytes numbers.now) ≤ length room.old }
+    ensures value { result ≡ at + length (numbers_bytes numbers.now) }
+    ensures room_after { room.new ≡ sets room.old at (numbers_bytes numbers.now) }
 {
-    if many < 1 {
-        return at;
+    let mut next = at;
+    for &number in numbers {
+        next = put_number(room, next, number);
     }
-    let next = put_number(room, at, first);
-    if many < 2 {
-        return next;
-    }
-    put_number(room, next, second)
+    next
 }
 
-// Writes a command into a room, from a place on, and says which place comes next.
+// Writes a command into a room, from a place on, and says which place comes next: its opcode, its flag, and as many arguments as its layout has.
 fn put_command(room: &mut [u8], at: usize, command: Command) -> usize
     requires { at + length (stored_command command) ≤ length room.old }
     ensures value { result ≡ at + length (stored_command command) }
@@ -83,20 +81,17 @@ fn put_command(room: &mut [u8], at: usize, command: Command) -> usize
 {
     let parts = wire::parts_of(command.kind);
     let row = wire::row_of(parts.form);
-    let flag_at = put_number(room, at, row.opcode as u32);
-    let arguments_at = put_number(room, flag_at, command.flag as u32);
-    let many = wire::arguments_of(row.layout);
-    put_arguments(room, arguments_at, many, parts.first, parts.second)
+    let numbers = [
+        row.opcode as u32,
+        command.flag as u32,
+        parts.first,
+        parts.second,
+    ];
+    put_numbers(room, at, &numbers[..2 + wire::arguments_of(row.layout)])
 }
 
-// A buffer for the commands of a list. In stored form none is longer than it was.
-pub fn list_room() -> [u8; walk::LONGEST]
-    ensures { 4096 ≡ length result }
-{
-    [0; walk::LONGEST]
-}
-
-// Puts the commands of a raw list at the front of a buffer, in stored form: how many they are, and how many bytes they have there.
+// Puts the commands of a raw list at the front of a buffer, in stored form: how many they are, and how many bytes they have there. In stored form none is
+// longer than it was.
 fn pack(list: &[u8], buffer: &mut [u8]) -> Result<(u32, usize), Refused>
     requires list_len_bound { length list.now ≤ 4096 }
     requires value { 4096 ≡ length buffer.old }
@@ -125,6 +120,7 @@ fn put_list(room: &mut [u8], count: u32, commands: &[u8])
     words::put_at(room, commands_at, commands);
 }
 
+#[tactic(auto, unfolding(crate::specs::Answers::to_card))]
 /// Writes the stored form of a raw list at the front of a room, and says how many bytes it has; the rest of the room stays as it was.
 ///
 /// # Errors
@@ -138,7 +134,7 @@ pub fn to_card(list: &[u8], room: &mut [u8]) -> Result<usize, Refused>
     if walk::LONGEST < list.len() {
         return Err(Fault::TooLong.into());
     }
-    let mut buffer = list_room();
+    let mut buffer = [0; walk::LONGEST];
     let (count, pos) = pack(list, &mut buffer)?;
     let bytes = number_length(FIRST) + number_length(count) + pos;
     if room.len() < bytes {
