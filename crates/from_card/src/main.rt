@@ -1,5 +1,5 @@
-// From a memory card: reads a stored list from standard input and writes the raw list that it says to standard output. Where it is refused nothing goes
-// there, and the line that says why goes to standard error. What is written is made first, and written at once.
+//! From a memory card: reads a stored list from standard input and writes the raw list that it says to standard output. Where it is refused nothing goes
+//! there, and the line that says why goes to standard error. What is written is made first, and written at once.
 #![tactic(auto)]
 
 ghost use Rattle.std.specs.Prelude.{◌≤◌, ◌≡◌, ◌++◌, length, drop};
@@ -13,18 +13,6 @@ const LONGEST: usize = 65536;
 // One byte more, so that a longer input is seen to be one.
 const INPUT: usize = LONGEST + 1;
 
-fn input_room() -> [u8; INPUT]
-    ensures { 65537 ≡ length result }
-{
-    [0; INPUT]
-}
-
-fn list_room() -> [u8; walk::LONGEST]
-    ensures { 4096 ≡ length result }
-{
-    [0; walk::LONGEST]
-}
-
 // Puts what is to be written for a stored list at the front of a room.
 fn put_printed(room: &mut [u8], stored: &[u8]) -> Output
     requires { 4096 ≤ length room.old }
@@ -37,25 +25,21 @@ fn put_printed(room: &mut [u8], stored: &[u8]) -> Output
 }
 
 fn main(rt: HostRuntime) {
-    let mut stored = input_room();
-    let input = input::read_input(&mut rt.stdin(), &mut stored);
-    if input.failed {
-        let _ = eprintln!(rt; "from_card: standard input cannot be read");
+    let mut input = [0; INPUT];
+    let Some(stored) = input::read_whole("from_card", &mut rt.stdin(), &mut rt.stderr(), &mut input)
+    else {
         return;
-    }
-    let read = input.bytes;
-    if LONGEST < read {
+    };
+    if LONGEST < stored.len() {
         let _ = eprintln!(rt; "from_card: the input is longer than 65536 bytes");
         return;
     }
-    let mut room = list_room();
-    let output = put_printed(&mut room, &stored[..read]);
-    let put = output.bytes;
+    let mut room = [0; walk::LONGEST];
+    let output = put_printed(&mut room, stored);
+    let made = &room[..output.bytes];
     if output.refused {
-        let _ = rt.stderr().write_all(&room[..put]);
+        let _ = rt.stderr().write_all(made);
         return;
     }
-    if rt.stdout().write_all(&room[..put]).is_err() {
-        let _ = eprintln!(rt; "from_card: standard output cannot be written");
-    }
+    input::write_whole("from_card", &mut rt.stdout(), &mut rt.stderr(), made);
 }

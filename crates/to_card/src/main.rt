@@ -1,5 +1,5 @@
-// To a memory card: reads a raw list from standard input and writes its stored form to standard output. Where the list is refused nothing goes there,
-// and the line that says why goes to standard error. What is written is made first, and written at once.
+//! To a memory card: reads a raw list from standard input and writes its stored form to standard output. Where the list is refused nothing goes there,
+//! and the line that says why goes to standard error. What is written is made first, and written at once.
 #![tactic(auto)]
 
 ghost use Rattle.std.specs.Prelude.{◌≤◌, ◌≡◌, ◌++◌, length, drop};
@@ -13,18 +13,6 @@ const INPUT: usize = walk::LONGEST + 1;
 // No stored list is more than 10 bytes longer than its raw list.
 const STORED: usize = walk::LONGEST + 10;
 
-fn input_room() -> [u8; INPUT]
-    ensures { 4097 ≡ length result }
-{
-    [0; INPUT]
-}
-
-fn stored_room() -> [u8; STORED]
-    ensures { 4106 ≡ length result }
-{
-    [0; STORED]
-}
-
 // Puts what is to be written for a raw list at the front of a room.
 fn put_printed(room: &mut [u8], raw: &[u8]) -> Output
     requires { 4106 ≤ length room.old }
@@ -37,21 +25,17 @@ fn put_printed(room: &mut [u8], raw: &[u8]) -> Output
 }
 
 fn main(rt: HostRuntime) {
-    let mut raw = input_room();
-    let input = input::read_input(&mut rt.stdin(), &mut raw);
-    if input.failed {
-        let _ = eprintln!(rt; "to_card: standard input cannot be read");
+    let mut input = [0; INPUT];
+    let Some(raw) = input::read_whole("to_card", &mut rt.stdin(), &mut rt.stderr(), &mut input)
+    else {
         return;
-    }
-    let read = input.bytes;
-    let mut room = stored_room();
-    let output = put_printed(&mut room, &raw[..read]);
-    let put = output.bytes;
+    };
+    let mut room = [0; STORED];
+    let output = put_printed(&mut room, raw);
+    let made = &room[..output.bytes];
     if output.refused {
-        let _ = rt.stderr().write_all(&room[..put]);
+        let _ = rt.stderr().write_all(made);
         return;
     }
-    if rt.stdout().write_all(&room[..put]).is_err() {
-        let _ = eprintln!(rt; "to_card: standard output cannot be written");
-    }
+    input::write_whole("to_card", &mut rt.stdout(), &mut rt.stderr(), made);
 }

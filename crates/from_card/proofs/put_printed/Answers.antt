@@ -11,9 +11,9 @@ use Rattle.from_card.specs.Printed.{found, bytes_in, printed}
 use Rattle.from_card.proofs.Printed.{fits, moves}
 use Rattle.from_card.proofs.put_printed.Goals as goal
 
-pub returns-clause-refused_value : goal.returns-clause-refused_value
+pub returns : goal.returns
 unfolding printed
-returns-clause-refused_value c =
+returns c =
     let put = c.put_moved in
     let stored = c.args.stored.now in
     let room = c.args.room.now in
@@ -24,34 +24,5 @@ returns-clause-refused_value c =
     let short = put.ensures.moved_len_bound in
     let enough : refusal_room ≤ length room = omega (arith, c.requires) in
     let told = put.ensures.value ∙ found_output Numbered.Commands (found stored) (bytes_in stored) room fit _ _ answer lies short enough in
-    ap (λ o. o.refused) told
-
-pub returns-clause-bytes_value : goal.returns-clause-bytes_value
-unfolding printed
-returns-clause-bytes_value c =
-    let put = c.put_moved in
-    let stored = c.args.stored.now in
-    let room = c.args.room.now in
-    let fit = fits stored room c.requires in
-    let moved = moves stored room fit in
-    let answer = ap outcome_of c.from_card-moved.ensures.result_value ∙ moved.answered in
-    let lies = c.from_card-moved.ensures.room_after ∙ moved.lies in
-    let short = put.ensures.moved_len_bound in
-    let enough : refusal_room ≤ length room = omega (arith, c.requires) in
-    let told = put.ensures.value ∙ found_output Numbered.Commands (found stored) (bytes_in stored) room fit _ _ answer lies short enough in
-    ap (λ o. o.bytes) told
-
-pub returns-clause-room_after : goal.returns-clause-room_after
-unfolding printed
-returns-clause-room_after c =
-    let put = c.put_moved in
-    let stored = c.args.stored.now in
-    let room = c.args.room.now in
-    let fit = fits stored room c.requires in
-    let moved = moves stored room fit in
-    let answer = ap outcome_of c.from_card-moved.ensures.result_value ∙ moved.answered in
-    let lies = c.from_card-moved.ensures.room_after ∙ moved.lies in
-    let short = put.ensures.moved_len_bound in
-    let enough : refusal_room ≤ length room = omega (arith, c.requires) in
     let left = put.ensures.room_after ∙ found_room Numbered.Commands (found stored) (bytes_in stored) room fit _ _ answer lies short enough in
-    left
+    record { refused_value = ap (λ o. o.refused) told; bytes_value = ap (λ o. o.bytes) told; room_after = left }
