@@ -24,6 +24,7 @@ pub fn read_input<R: Read>(reader: &mut R, room: &mut [u8]) -> Result<usize, Unr
     ensures unread { IfErr result (λ cut. cut.bytes ≤ length room.new) }
 {
     let mut bytes = 0;
+    // Each turn goes on by as many bytes as a read gave, so no iterator counts them.
     while bytes < room.len() {
         match reader.read(&mut room[bytes..]) {
             Ok(0) => break,
