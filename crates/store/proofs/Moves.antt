@@ -5,9 +5,9 @@ use mathlib.Core.Path.{◌≡◌, refl, sym, ap, ◌∙◌}
 use mathlib.Core.List.{List, [], ◌∷◌, ◌++◌, append_assoc}
 use mathlib.Core.Bool.{Bool, true, false}
 use native.Mathlib.Omega.{arith}
-use lib.ListN.{length, get_or, set, take, drop, length-take, length-drop, length-append, take-append-drop, get_or-append}
-use lib.Seq.{length-take-le, take-suc, take-nil, drop-cons, append_snoc, set_at, get_or-take, sets-eq, take-append-le, drop-append-le, take-append-add}
-use lib.Seq.{drop-append-add, take-take, drop-drop, drop_at, take_all}
+use lib.ListN.{length, set, take, drop, length-take, length-drop, length-append}
+use lib.Seq.{length-take-le, take-nil, sets-eq, take-append-le, drop-append-le, take-append-add}
+use lib.Seq.{paste, drop-append-add, take-take, drop-drop, drop_at, take_all}
 use lib.Dec.{leb}
 use borrow.Author.Tests.{leb-true, leb-false}
 use Rattle.wire.specs.declared.kinds.Command.{Command}
@@ -94,34 +94,13 @@ part_cut l n start size end long is = go (leb (start + size) n) refl
         take_all size (drop start l) (rw length-drop (omega (arith, over)))
         ∙ sym (take_all (end - start) (drop start l) (rw length-drop (omega (arith, over))))
 
--- The words before any is moved.
-pub raised_none : (ws : List ℕ) (to : ℕ) → ws ≡ raised ws to to
+-- The words are copied three places up.
+pub raised_whole : (ws : List ℕ) (from to : ℕ) → from ≤ to → paste ws (from + 3) (drop from ws) (to - from) ≡ raised ws from to
 unfolding raised
-raised_none ws to =
-    let e : to - to ≡ 0 = omega arith in
-    rw e (sym (take-append-drop (to + 3) ws))
-
--- One word more is moved.
-pub raised_more : (ws l : List ℕ) (old new to : ℕ) → old ≡ suc new → old ≤ to → to + 3 ≤ length ws → l ≡ raised ws old to
-    → set l (new + 3) (get_or l new 0) ≡ raised ws new to
-unfolding raised
-raised_more ws l old new to e h fits is =
-    let rest : List ℕ = take (to - suc new) (drop (suc new) ws) ++ drop (to + 3) ws in
-    let low : List ℕ = take (new + 3) ws in
-    let up : suc new + 3 ≡ suc (new + 3) = omega arith in
-    let cut : take (suc (new + 3)) ws ≡ low ++ (get_or ws (new + 3) 0 ∷ []) = take-suc ws (new + 3) 0 (omega arith) in
-    let now : l ≡ take (suc (new + 3)) ws ++ rest = is ∙ rw (e, up) in
-    let split : l ≡ low ++ get_or ws (new + 3) 0 ∷ rest = now ∙ ap (λ x. x ++ rest) cut ∙ append_snoc low (get_or ws (new + 3) 0) rest in
-    let read : get_or l new 0 ≡ get_or ws new 0 =
-    ap (λ x. get_or x new 0) now
-    ∙ get_or-append (take (suc (new + 3)) ws) rest 0 new (rw (length-take-le (suc (new + 3)) ws (omega arith)) (omega arith))
-    ∙ get_or-take (suc (new + 3)) ws new 0 (omega arith) in
-    let put : set l (new + 3) (get_or ws new 0) ≡ low ++ get_or ws new 0 ∷ rest =
-    ap (λ x. set x (new + 3) (get_or ws new 0)) split ∙ set_at low _ rest _ (new + 3) (length-take-le (new + 3) ws (omega arith)) in
-    let count : to - new ≡ suc (to - suc new) = omega arith in
-    let seen : take (to - new) (drop new ws) ≡ get_or ws new 0 ∷ take (to - suc new) (drop (suc new) ws) =
-    rw (count, drop-cons ws new 0 (omega arith)) in
-    ap (λ x. set l (new + 3) x) read ∙ put ∙ ap (λ x. low ++ (x ++ drop (to + 3) ws)) (sym seen)
+raised_whole ws from to h =
+    let end : from + 3 + (to - from) ≡ to + 3 = omega arith in
+    append_assoc (take (from + 3) ws) (take (to - from) (drop from ws)) (drop (from + 3 + (to - from)) ws)
+    ∙ ap (λ n. take (from + 3) ws ++ (take (to - from) (drop from ws) ++ drop n ws)) end
 
 pub length-raised : (ws : List ℕ) (from to : ℕ) → from ≤ to → to + 3 ≤ length ws → length (raised ws from to) ≡ length ws
 unfolding raised

@@ -7,8 +7,8 @@ use mathlib.Core.Bool.{Bool, true, false, cond, not, ◌&&◌, ◌||◌, true≢
 use native.Mathlib.Omega.{arith}
 use native.Mathlib.Numerals.{add-one}
 use lib.ListN.{length, get_or}
-use lib.Dec.{leb, eqb}
-use borrow.Author.Tests.{leb-true, leb-false, le-leb, lt-leb, eqb-true}
+use lib.Dec.{leb, ltb, eqb}
+use borrow.Author.Tests.{ltb-true, ltb-false, leb-true, leb-false, le-leb, lt-leb, eqb-true}
 use Rattle.words.specs.Codes.{Check, ◌when◌, first_of}
 use Rattle.wire.specs.declared.table.Form.{Form}
 use Rattle.wire.specs.declared.table.Row.{Row}
@@ -30,7 +30,7 @@ use Rattle.store.specs.Words.{no_command, command_for}
 use Rattle.store.specs.Pool.{is_closed, used_in, size_of, start_of, between}
 use Rattle.store.specs.WrittenOut.{most_in, written_out}
 use Rattle.store.specs.Checks.{row17, row18}
-use Rattle.store.specs.SpanSteps.{no_span, length_of, told_span, spans_to, TellsBelow}
+use Rattle.store.specs.SpanSteps.{no_span, leads, length_of, told_span, spans_to, TellsBelow}
 use Rattle.store.specs.GroupSteps.{Clear, Due}
 use Rattle.store.specs.Sound.{all_below, all_of, entry_holds, macro_holds, pool_holds, running_holds, store_sound}
 use Rattle.store.specs.TallySteps.{store_of, span_by, form_holds, macro_by}
@@ -116,14 +116,22 @@ module _ (closed : List Bool) (m : ℕ) (first second : ℕ) where
     pub run_refused : passed ≡ false → false ≡ form_holds closed m Form.Run first second
     run_refused fails = all_three (run_passed fails) refl refl ∙ form_as Form.Run
 
-    pub run_upward : passed ≡ true → m ≤ first % 256 → false ≡ form_holds closed m Form.Run first second
+    run_upward : passed ≡ true → m ≤ first % 256 → false ≡ form_holds closed m Form.Run first second
     run_upward holds above = all_three (run_passed holds) (ap not (le-leb m (first % 256) above)) refl ∙ form_as Form.Run
 
-    pub run_closed : (shut : Bool) → passed ≡ true → first % 256 < m → shut ≡ get_or closed (first % 256) false
+    run_closed : (shut : Bool) → passed ≡ true → first % 256 < m → shut ≡ get_or closed (first % 256) false
         → shut ≡ form_holds closed m Form.Run first second
     run_closed shut holds below marked =
         let mark = get_or closed (first % 256) false in
         all_three (run_passed holds) (ap not (lt-leb m (first % 256) below)) (not-not mark ∙ sym marked) ∙ form_as Form.Run
+
+    pub run_leads : (led : Bool) → passed ≡ true → led ≡ leads closed m (first % 256) → led ≡ form_holds closed m Form.Run first second
+    run_leads led holds is = go (ltb (first % 256) m) refl
+      where
+        go : (b : Bool) → ltb (first % 256) m ≡ b → led ≡ form_holds closed m Form.Run first second
+        go true e = run_closed led holds (ltb-true (first % 256) m e) (is ∙ ap (λ below. below && get_or closed (first % 256) false) e)
+        go false e =
+            is ∙ ap (λ below. below && get_or closed (first % 256) false) e ∙ run_upward holds (ltb-false (first % 256) m e)
 
 -- An entry by its first word: with flag 0, or with an opcode that is not in the table, it does not hold; otherwise its form is asked.
 module _ (closed : List Bool) (m : ℕ) (found : Option (Form × ℕ)) (flag : Bool) (first second : ℕ) where

@@ -1,69 +1,38 @@
-// The small arrays of the store, a place to each macro.
+//! The small arrays of the store, a place to each macro. A number that no macro has reads as nothing, and nothing is written there.
 ghost use Rattle.std.specs.Prelude.{◌≡◌, true, false, get_or, set};
 ghost use Rattle.store.specs.Words.{bit};
 ghost use Rattle.store.specs.Pool.{marks_of};
 
-use super::MACROS;
-use super::spans::Span;
-
-// The entries that a macro has; none for a number that no macro has.
+/// The entries that a macro has.
 pub(crate) fn count_at(counts: [u8; 8], m: u8) -> u8
     ensures { result ≡ get_or counts m 0 }
 {
-    let at = m as usize;
-    if at < MACROS { counts[at] } else { 0 }
+    counts.get(m as usize).copied().unwrap_or(0)
 }
 
 pub(crate) fn closed_at(closed: [bool; 8], m: u8) -> bool
     ensures { result ≡ get_or closed m false }
 {
-    let at = m as usize;
-    if at < MACROS { closed[at] } else { false }
+    closed.get(m as usize).copied().unwrap_or(false)
 }
 
-// The counts with another one for macro m.
-pub(crate) fn with_count(counts: [u8; 8], m: u8, count: u8) -> [u8; 8]
-    ensures { result ≡ set counts m count }
+/// Puts another value in the place of macro m.
+pub(crate) fn put<T: Copy>(values: &mut [T], m: u8, value: T)
+    ensures { values.new ≡ set values.old m value }
 {
-    let mut next = counts;
     let at = m as usize;
-    if at < MACROS {
-        next[at] = count;
+    if at < values.len() {
+        values[at] = value;
     }
-    next
 }
 
-// The spans with another one for macro m.
-pub(crate) fn with_span(spans: [Span; 8], m: u8, span: Span) -> [Span; 8]
-    ensures { result ≡ set spans m span }
-{
-    let mut next = spans;
-    let at = m as usize;
-    if at < MACROS {
-        next[at] = span;
-    }
-    next
-}
-
-// The marks with macro m closed.
-pub(crate) fn marked(closed: [bool; 8], m: u8) -> [bool; 8]
-    ensures { result ≡ set closed m true }
-{
-    let mut next = closed;
-    let at = m as usize;
-    if at < MACROS {
-        next[at] = true;
-    }
-    next
-}
-
-pub(crate) fn bit_of(on: bool) -> u8
+fn bit_of(on: bool) -> u8
     ensures { result ≡ bit on }
 {
-    if on { 1 } else { 0 }
+    u8::from(on)
 }
 
-// The marks as a byte, bit m for macro m.
+/// The marks as a byte, bit m for macro m.
 pub(crate) fn byte_of(closed: [bool; 8]) -> u8
     ensures { result ≡ marks_of closed }
 {

@@ -1,7 +1,7 @@
-// Rows 11 to 19 and 25 of the codes, each as a test on the few numbers that it looks at.
+//! Rows 11 to 19 and 25 of the codes, each as a test on the few numbers that it looks at. Rules: "The codes".
 ghost use Rattle.std.specs.Prelude.{◌≡◌};
 ghost use Rattle.words.specs.Codes.{first_of};
-ghost use Rattle.store.specs.Checks.{code_of, code_of_some, told_permit, row11, row12, row13, row14, row15, row25, row17, row18, row19};
+ghost use Rattle.store.specs.Checks.{code_of, code_of_some, told_permit, row11, row12, row13, row14, row15, row25, row16, row17, row18, row19};
 ghost use Rattle.store.specs.TallySteps.{entry_checks};
 
 use super::arrays::closed_at;
@@ -45,104 +45,77 @@ impl Code for Denial {
     }
 }
 
-// Row 11: flag 1, or CLOSE, and no macro open.
+/// Row 11: flag 1, or CLOSE, and no macro open.
 pub(crate) fn lacks_open(flag: bool, role: Role, opened: u8) -> bool
     ensures { result ≡ row11 flag role opened }
 {
-    if flag {
-        return opened == NONE;
-    }
-    if is_close(role) {
-        opened == NONE
-    } else {
-        false
-    }
+    (flag || is_close(role)) && opened == NONE
 }
 
-// Row 12: OPEN while one is open.
+/// Row 12: OPEN while one is open.
 pub(crate) fn opens_another(role: Role, opened: u8) -> bool
     ensures { result ≡ row12 role opened }
 {
-    if is_open(role) { opened != NONE } else { false }
+    is_open(role) && opened != NONE
 }
 
-// Row 13: OPEN of a closed macro.
+/// Row 13: OPEN of a closed macro.
 pub(crate) fn opens_closed(role: Role, closed: [bool; 8]) -> bool
     ensures { result ≡ row13 role closed }
 {
-    if is_open(role) {
-        closed_at(closed, number_of(role))
-    } else {
-        false
-    }
+    is_open(role) && closed_at(closed, number_of(role))
 }
 
-// Row 14: CLOSE of a macro without entries.
+/// Row 14: CLOSE of a macro without entries.
 pub(crate) fn closes_empty(role: Role, count: u8) -> bool
     ensures { result ≡ row14 role count }
 {
-    if is_close(role) { count == 0 } else { false }
+    is_close(role) && count == 0
 }
 
-// Row 15: CLOSE where the written-out length exceeds LONGEST.
+/// Row 15: CLOSE where the written-out length exceeds LONGEST.
 pub(crate) fn closes_too_long(role: Role, length: u16) -> bool
     ensures { result ≡ row15 role length }
 {
-    if is_close(role) {
-        LONGEST < length
-    } else {
-        false
-    }
+    is_close(role) && LONGEST < length
 }
 
-// Row 25: CLOSE where a second has more entries than GROUP.
+/// Row 25: CLOSE where a second has more entries than GROUP.
 pub(crate) fn closes_too_many(role: Role, most: u8) -> bool
     ensures { result ≡ row25 role most }
 {
-    if is_close(role) {
-        GROUP < most as usize
-    } else {
-        false
-    }
+    is_close(role) && GROUP < most as usize
 }
 
-// Row 17: appended RUN whose number is not below the open macro's.
-pub(crate) fn runs_upward(flag: bool, role: Role, opened: u8) -> bool
+/// Row 16: an append where no entry is free.
+fn lacks_entry(flag: bool, used: usize) -> bool
+    ensures { result ≡ row16 flag used }
+{
+    flag && ENTRIES <= used
+}
+
+/// Row 17: appended RUN whose number is not below the open macro's.
+fn runs_upward(flag: bool, role: Role, opened: u8) -> bool
     ensures { result ≡ row17 flag role opened }
 {
-    if flag {
-        if is_run(role) {
-            return opened <= number_of(role);
-        }
-    }
-    false
+    flag && is_run(role) && opened <= number_of(role)
 }
 
-// Row 18: RUN of a macro not closed.
-pub(crate) fn runs_unclosed(role: Role, closed: [bool; 8]) -> bool
+/// Row 18: RUN of a macro not closed.
+fn runs_unclosed(role: Role, closed: [bool; 8]) -> bool
     ensures { result ≡ row18 role closed }
 {
-    if is_run(role) {
-        !closed_at(closed, number_of(role))
-    } else {
-        false
-    }
+    is_run(role) && !closed_at(closed, number_of(role))
 }
 
-// Row 19: executed RUN, or CLEAR, while a macro runs.
+/// Row 19: executed RUN, or CLEAR, while a macro runs.
 fn starts_busy(flag: bool, role: Role, running: u8) -> bool
     ensures { result ≡ row19 flag role running }
 {
-    if running == NONE {
-        return false;
-    }
-    if is_clear(role) {
-        return true;
-    }
-    if flag { false } else { is_run(role) }
+    ((!flag && is_run(role)) || is_clear(role)) && running != NONE
 }
 
-// Rows 16 to 19, in their order.
+/// Rows 16 to 19, in their order.
 pub(crate) fn permits_entry(
     flag: bool,
     role: Role,
@@ -153,10 +126,8 @@ pub(crate) fn permits_entry(
 ) -> Result<(), Denial>
     ensures { told_permit result ≡ first_of (entry_checks flag role used closed opened running) }
 {
-    if flag {
-        if ENTRIES <= used {
-            return Err(Denial::NoneFree);
-        }
+    if lacks_entry(flag, used) {
+        return Err(Denial::NoneFree);
     }
     if runs_upward(flag, role, opened) {
         return Err(Denial::NotBelow);

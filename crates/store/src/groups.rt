@@ -10,7 +10,7 @@ ghost use Rattle.store.specs.GroupSteps as steps;
 ghost use Rattle.store.specs.TallySteps.{store_of};
 
 use super::pool::{Entry, WORDS, end_of, entry_at, found_in, size_of, start_of};
-use super::spans::{Beat, Span, beat_in, has_target, less, seconds_of, span_at};
+use super::spans::{Beat, Span, beat_in, has_target, seconds_of, span_at};
 use super::tally::Tally;
 use super::{GROUP, TOO_LONG};
 use wire::{Form, Kind};
@@ -23,7 +23,7 @@ pub struct Group {
 }
 
 // What the walk does at an entry: it takes it, waits, or follows it into a macro.
-#[derive(Drop)]
+#[derive(Clone, Copy)]
 enum Turn {
     Takes,
     Waits(u16),
@@ -31,7 +31,7 @@ enum Turn {
 }
 
 // Where the walk stands: the seconds still to pass, the entries taken so far, and whether the second looked for is closed.
-#[derive(Drop)]
+#[derive(Clone, Copy)]
 struct Spot {
     left: u16,
     count: u8,
@@ -54,8 +54,7 @@ impl Group {
 pub fn group_size(count: u8) -> usize
     ensures { result ≡ min 64 count }
 {
-    let size = count as usize;
-    if GROUP < size { GROUP } else { size }
+    (count as usize).min(GROUP)
 }
 
 // The kind that a form and two arguments say; out of range they are no command.
@@ -96,8 +95,8 @@ fn kind_in(entry: Entry) -> Kind
     ensures { result ≡ (command_in entry).kind }
 {
     match found_in(entry.head) {
-        None => Kind::ImgPwr(0),
         Some((form, _)) => kind_by(form, entry.first, entry.second),
+        None => Kind::ImgPwr(0),
     }
 }
 
@@ -123,13 +122,10 @@ pub fn handed_at(words: &[u32; 192], i: usize) -> Kind
 fn is_over(span: Span, left: u16) -> bool
     ensures { result ≡ over span left }
 {
-    if TOO_LONG <= span.waits {
-        return false;
-    }
-    if 0 < span.last {
-        span.waits < left
+    if span.last == 0 {
+        span.waits < TOO_LONG && span.waits <= left
     } else {
-        span.waits <= left
+        span.waits < TOO_LONG && span.waits < left
     }
 }
 
@@ -199,20 +195,16 @@ fn collect(words: &[u32], tally: Tally, m: u8, spot: Spot, group: &mut [u32]) ->
     requires walked { Walked (store_of words.now tally) m tally.spans group.old }
     ensures { cursor_of result group.new ≡ collected (cursor_of spot group.old) (items_of (flat (store_of words.now tally) m)) }
 {
-    let counts = tally.counts;
     let closed = tally.closed;
-    let spans = tally.spans;
-    let start = start_of(counts, closed, tally.opened, m);
-    let end = end_of(start, size_of(counts, closed, tally.opened, m));
+    let start = start_of(tally.counts, closed, tally.opened, m);
+    let end = end_of(start, size_of(tally.counts, closed, tally.opened, m));
     let mut spot = spot;
-    let mut i = start;
-    while i < end {
+    for i in start..end {
         if spot.done {
             return spot;
         }
         let entry = entry_at(words, i);
-        i += 1;
-        match turn_in(beat_in(entry), m, closed, spans, spot.left) {
+        match turn_in(beat_in(entry), m, closed, tally.spans, spot.left) {
             Turn::Takes => {
                 spot = taken(spot, group, entry);
             }
@@ -233,11 +225,10 @@ pub(crate) fn group_due(words: &[u32], tally: Tally, m: u8, left: u16) -> Group
     requires due { Due (store_of words.now tally) m tally.spans }
     ensures { result ≡ group_of (group_due (store_of words.now tally) m left) }
 {
-    let spans = tally.spans;
-    let length = seconds_of(span_at(spans, m));
+    let length = seconds_of(span_at(tally.spans, m));
     let mut group: [u32; 192] = [0; 192];
     let spot = Spot {
-        left: less(length, left),
+        left: length.saturating_sub(left),
         count: 0,
         done: false,
     };

@@ -99,15 +99,21 @@ impl Store {
     pub fn of_parts(pool: [u32; 576], tally: Tally) -> Store
         ensures { result ≡ store_of pool tally }
     {
-        let counts = tally.counts;
-        let closed = tally.closed;
+        let Tally {
+            counts,
+            closed,
+            opened,
+            running,
+            left,
+            ..
+        } = tally;
         Store {
             pool,
             counts,
             closed,
-            opened: tally.opened,
-            running: tally.running,
-            left: tally.left,
+            opened,
+            running,
+            left,
         }
     }
 
@@ -115,15 +121,21 @@ impl Store {
     pub fn bare(self) -> Tally
         ensures { result ≡ bare_of self }
     {
-        let counts = self.counts;
-        let closed = self.closed;
+        let Store {
+            counts,
+            closed,
+            opened,
+            running,
+            left,
+            ..
+        } = self;
         Tally {
             counts,
             closed,
             spans: spans::no_spans(),
-            opened: self.opened,
-            running: self.running,
-            left: self.left,
+            opened,
+            running,
+            left,
         }
     }
 }
@@ -163,7 +175,7 @@ pub fn second(pool: &[u32; 576], tally: Tally) -> Result<Step, Unsound>
     }
     let tally = survey.tally;
     let group = groups::group_due(pool, tally, running, left);
-    let left = spans::less(left, 1);
+    let left = left.saturating_sub(1);
     Ok(Step {
         running: still_running(running, left),
         left,

@@ -7,14 +7,12 @@ ghost use Rattle.store.specs.Pool.{in_use, size_of, start_of, used_of, words_aft
 ghost use Rattle.store.specs.PoolSteps.{command_in, raised};
 ghost use Rattle.store.specs.GroupSteps.{words_in, words_at};
 
-use super::arrays::{bit_of, closed_at, count_at};
+use super::arrays::{closed_at, count_at};
 use super::{ENTRIES, MACROS};
 use wire::{Command, Form};
 
 // The words of an entry: the opcode with the flag as its lowest bit, and the two arguments.
 pub(crate) const WORDS: usize = 3;
-// An opcode has 16 bits.
-const OPCODES: u32 = 65536;
 
 // The words of one entry.
 #[derive(Clone, Copy)]
@@ -28,10 +26,7 @@ pub(crate) struct Entry {
 pub(crate) fn in_use(closed: [bool; 8], opened: u8, m: u8) -> bool
     ensures { result ≡ in_use closed opened m }
 {
-    if closed_at(closed, m) {
-        return true;
-    }
-    opened == m
+    closed_at(closed, m) || opened == m
 }
 
 // The entries that macro m has in the pool.
@@ -50,10 +45,8 @@ pub(crate) fn start_of(counts: [u8; 8], closed: [bool; 8], opened: u8, m: u8) ->
     ensures { result ≡ start_of counts closed opened m }
 {
     let mut sum: usize = 0;
-    let mut i: u8 = 0;
-    while i < m {
+    for i in 0..m {
         sum += size_of(counts, closed, opened, i);
-        i += 1;
     }
     sum
 }
@@ -70,23 +63,14 @@ pub(crate) fn end_of(start: usize, size: usize) -> usize
     requires { size ≤ 255 }
     ensures { result ≡ min 192 (start + size) }
 {
-    if ENTRIES <= start {
-        return ENTRIES;
-    }
-    let end = start + size;
-    if ENTRIES < end { ENTRIES } else { end }
+    start.saturating_add(size).min(ENTRIES)
 }
 
 // What the first word of an entry stands for: it may be too large for an opcode and its flag.
 pub(crate) fn found_in(head: u32) -> Option<(Form, u16)>
     ensures { result ≡ rule_of (head / 2) }
 {
-    let opcode = head / 2;
-    if opcode < OPCODES {
-        wire::rule_of(opcode as u16)
-    } else {
-        None
-    }
+    wire::rule_of(u16::try_from(head / 2).ok()?)
 }
 
 // Entry i of the pool, or of a group, by its words.
@@ -108,7 +92,7 @@ fn head_of(form: Form, flag: bool) -> u32
     ensures { result ≡ head_of form flag }
 {
     let row = wire::row_of(form);
-    (row.opcode as u32) * 2 + (bit_of(flag) as u32)
+    u32::from(row.opcode) * 2 + u32::from(flag)
 }
 
 // Moves the words from `from` to `to` up by one entry, from the top down.
@@ -116,11 +100,7 @@ fn raise(words: &mut [u32], from: usize, to: usize)
     requires { (length words.old ≡ 576) × (from ≤ to) × (to ≤ 573) }
     ensures { words.new ≡ raised words.old from to }
 {
-    let mut at = to;
-    while from < at {
-        at -= 1;
-        words[at + WORDS] = words[at];
-    }
+    words.copy_within(from..to, from + WORDS);
 }
 
 // Puts an entry in at word `from`; what lies from there to `to` moves up.
@@ -128,11 +108,9 @@ fn insert(words: &mut [u32], from: usize, to: usize, command: Command)
     requires { (length words.old ≡ 576) × (from ≤ to) × (to ≤ 573) }
     ensures { words.new ≡ inserted words.old from to command }
 {
-    let kind = command.kind;
-    let parts = wire::parts_of(kind);
-    let form = parts.form;
+    let parts = wire::parts_of(command.kind);
     raise(words, from, to);
-    words[from] = head_of(form, command.flag);
+    words[from] = head_of(parts.form, command.flag);
     words[from + 1] = parts.first;
     words[from + 2] = parts.second;
 }

@@ -11,7 +11,7 @@ ghost use Rattle.store.specs.TallySteps.{store_of, used_by, form_holds, entries_
 
 use super::arrays::{closed_at, count_at};
 use super::pool::{Entry, end_of, entry_at, found_in, size_of};
-use super::spans::{Span, seconds_of, span_at};
+use super::spans::{Span, has_target, seconds_of, span_at};
 use super::tally::Tally;
 use super::{ENTRIES, GROUP, LONGEST, MACROS, NONE};
 use wire::{Form, Row};
@@ -20,26 +20,15 @@ use wire::{Form, Row};
 fn passes(row: Row, first: u32, second: u32) -> bool
     ensures { result ≡ eqb (first_of (row_checks row true first second)) 0 }
 {
-    match wire::judge_by(row, true, first, second) {
-        Ok(()) => true,
-        Err(_) => false,
-    }
+    wire::judge_by(row, true, first, second).is_ok()
 }
 
 // A RUN in macro m passes 8 and, its target being a closed macro with a smaller number, 17 and 18.
 fn run_holds(first: u32, second: u32, m: u8, closed: [bool; 8]) -> bool
     ensures { result ≡ form_holds closed m Form.Run first second }
 {
-    if !passes(wire::row_of(Form::Run), first, second) {
-        return false;
-    }
     // In range, so the eight bits are all of it.
-    let target = (first % 256) as u8;
-    if target < m {
-        closed_at(closed, target)
-    } else {
-        false
-    }
+    passes(wire::row_of(Form::Run), first, second) && has_target(closed, m, (first % 256) as u8)
 }
 
 // An entry of macro m with flag 1, whose form is known, passes 8 to 10 and, for a RUN, 17 and 18. In each arm the row is a constant.
@@ -69,12 +58,11 @@ fn form_holds(form: Form, first: u32, second: u32, m: u8, closed: [bool; 8]) -> 
 fn entry_holds(entry: Entry, m: u8, closed: [bool; 8]) -> bool
     ensures { result ≡ entry_holds closed m (command_in entry) }
 {
-    if entry.head % 2 == 0 {
-        return false;
-    }
     match found_in(entry.head) {
-        None => false,
-        Some((form, _)) => form_holds(form, entry.first, entry.second, m, closed),
+        Some((form, _)) if entry.head % 2 == 1 => {
+            form_holds(form, entry.first, entry.second, m, closed)
+        }
+        _ => false,
     }
 }
 
@@ -84,12 +72,10 @@ fn entries_hold(words: &[u32], start: usize, size: usize, m: u8, closed: [bool; 
     ensures { result ≡ entries_by closed m (between words.now start size) }
 {
     let end = end_of(start, size);
-    let mut i = start;
-    while i < end {
+    for i in start..end {
         if !entry_holds(entry_at(words, i), m, closed) {
             return false;
         }
-        i += 1;
     }
     true
 }
@@ -99,16 +85,7 @@ fn closed_fits(count: u8, span: Span) -> bool
     ensures { result ≡ (leb 1 count && leb 1 (length_of span) && leb (length_of span) 600 && leb span.most 64) }
 {
     let length = seconds_of(span);
-    if count < 1 {
-        return false;
-    }
-    if length < 1 {
-        return false;
-    }
-    if LONGEST < length {
-        return false;
-    }
-    (span.most as usize) <= GROUP
+    1 <= count && 1 <= length && length <= LONGEST && span.most as usize <= GROUP
 }
 
 // Does macro m hold, whose entries start here, by a tally that has the spans? One that is neither closed nor open is not judged.
@@ -116,35 +93,21 @@ fn macro_holds(words: &[u32], tally: Tally, start: usize, size: usize, m: u8) ->
     requires { (length words.now ≡ 576) × (size ≤ 255) }
     ensures { result ≡ macro_by tally m (between words.now start size) }
 {
-    let counts = tally.counts;
     let closed = tally.closed;
-    let spans = tally.spans;
     if closed_at(closed, m) {
-        if closed_fits(count_at(counts, m), span_at(spans, m)) {
-            return entries_hold(words, start, size, m, closed);
-        }
-        return false;
+        closed_fits(count_at(tally.counts, m), span_at(tally.spans, m))
+            && entries_hold(words, start, size, m, closed)
+    } else {
+        tally.opened != m || entries_hold(words, start, size, m, closed)
     }
-    if tally.opened == m {
-        return entries_hold(words, start, size, m, closed);
-    }
-    true
 }
 
 // A running macro is closed, with 1 to its length seconds left.
 fn running_holds(running: u8, left: u16, closed: [bool; 8], table: [Span; 8]) -> bool
     ensures { result ≡ (eqb running 255 || (get_or closed running false && leb 1 left && leb left (length_of (get_or table running no_span)))) }
 {
-    if running == NONE {
-        return true;
-    }
-    if !closed_at(closed, running) {
-        return false;
-    }
-    if left < 1 {
-        return false;
-    }
-    left <= seconds_of(span_at(table, running))
+    running == NONE
+        || (closed_at(closed, running) && 1 <= left && left <= seconds_of(span_at(table, running)))
 }
 
 // The whole store, by a tally that has the spans, and its entries in use.
@@ -156,18 +119,13 @@ pub(crate) fn holds(words: &[u32], tally: Tally, used: usize) -> bool
     if ENTRIES < used {
         return false;
     }
-    let counts = tally.counts;
-    let closed = tally.closed;
-    let spans = tally.spans;
     let mut start = 0;
-    let mut m: u8 = 0;
-    while (m as usize) < MACROS {
-        let size = size_of(counts, closed, tally.opened, m);
+    for m in 0..MACROS as u8 {
+        let size = size_of(tally.counts, tally.closed, tally.opened, m);
         if !macro_holds(words, tally, start, size, m) {
             return false;
         }
         start += size;
-        m += 1;
     }
-    running_holds(tally.running, tally.left, closed, spans)
+    running_holds(tally.running, tally.left, tally.closed, tally.spans)
 }

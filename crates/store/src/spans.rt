@@ -1,6 +1,6 @@
 // What a macro spans, without writing it out: a table over the macros, each by its entries and the spans of those below it.
 // The macro number falls at each call, and the pool's words are only lent, so eight calls visit at most 192 entries, on every store.
-ghost use Rattle.std.specs.Prelude.{◌+◌, ◌-◌, ◌≤◌, min, max, ◌≡◌, ◌||◌, length, get_or, replicate};
+ghost use Rattle.std.specs.Prelude.{◌+◌, ◌≤◌, min, ◌≡◌, length, get_or, replicate};
 ghost use Rattle.store.specs.Pool.{between};
 ghost use Rattle.store.specs.PoolSteps.{command_in};
 ghost use Rattle.store.specs.SpanSteps.{no_span, entries_span, wait_span, grown, joined_of, behind, length_of, span_in, spans_from, measured_to};
@@ -11,20 +11,20 @@ use super::arrays::closed_at;
 use super::pool::{Entry, end_of, entry_at, size_of};
 use super::roles::Role;
 use super::tally::Tally;
-use super::{MACROS, TOO_LONG, TOO_MANY};
+use super::{TOO_LONG, TOO_MANY};
 use wire::Form;
 
-// What an entry is to the seconds of its macro: one that is handed over, a WAIT, or a RUN.
-#[derive(Drop)]
+/// What an entry is to the seconds of its macro: one that is handed over, a WAIT, or a RUN.
+#[derive(Clone, Copy)]
 pub(crate) enum Beat {
     Entry,
     Wait(u16),
     Run(u8),
 }
 
-// What a list spans: the sum of its waits, the entries of its first second and those behind its last WAIT, the most in any second, and whether it has
-// a WAIT. It is told up to TOO_LONG seconds and TOO_MANY entries.
-#[derive(Clone, Copy)]
+/// What a list spans: the sum of its waits, the entries of its first second and those behind its last WAIT, the most in any second, and whether it has
+/// a WAIT. It is told up to 601 seconds and 65 entries.
+#[derive(Clone, Copy, Debug, PartialEq, Eq, Default)]
 pub struct Span {
     pub waits: u16,
     pub first: u8,
@@ -44,67 +44,34 @@ pub(crate) struct Measured {
 fn added(a: u16, b: u16) -> u16
     ensures { result ≡ min 601 (a + b) }
 {
-    let sum = a as u32 + b as u32;
-    if (TOO_LONG as u32) < sum {
-        TOO_LONG
-    } else {
-        sum as u16
-    }
-}
-
-// The seconds between two numbers; none where the second is the larger.
-pub(crate) fn less(a: u16, b: u16) -> u16
-    ensures { result ≡ a - b }
-{
-    if a < b { 0 } else { a - b }
+    a.saturating_add(b).min(TOO_LONG)
 }
 
 // A sum of entries, told up to TOO_MANY.
 fn together(a: u8, b: u8) -> u8
     ensures { result ≡ min 65 (a + b) }
 {
-    let sum = a as u16 + b as u16;
-    if (TOO_MANY as u16) < sum {
-        TOO_MANY
-    } else {
-        sum as u8
-    }
-}
-
-fn larger(a: u8, b: u8) -> u8
-    ensures { result ≡ max a b }
-{
-    if a < b { b } else { a }
-}
-
-fn either(a: bool, b: bool) -> bool
-    ensures { result ≡ (a || b) }
-{
-    if a { true } else { b }
+    a.saturating_add(b).min(TOO_MANY)
 }
 
 // The entries at an end of two lists one after another: those of the outer one, and of the other one too where the outer one has no WAIT.
 fn grow(waited: bool, kept: u8, more: u8) -> u8
     ensures { result ≡ min 65 (grown waited kept more) }
 {
-    if waited {
-        together(kept, 0)
-    } else {
-        together(kept, more)
-    }
+    together(kept, if waited { 0 } else { more })
 }
 
 // The span of two lists one after another.
 fn joined(a: Span, b: Span) -> Span
     ensures { result ≡ joined_of a b }
 {
-    let most = larger(larger(a.most, b.most), together(a.last, b.first));
+    let most = a.most.max(b.most).max(together(a.last, b.first));
     Span {
         waits: added(a.waits, b.waits),
         first: grow(a.waited, a.first, b.first),
         last: grow(b.waited, b.last, a.last),
-        most: together(most, 0),
-        waited: either(a.waited, b.waited),
+        most: most.min(TOO_MANY),
+        waited: a.waited || b.waited,
     }
 }
 
@@ -112,20 +79,13 @@ fn joined(a: Span, b: Span) -> Span
 pub(crate) fn no_span() -> Span
     ensures { result ≡ no_span }
 {
-    Span {
-        waits: 0,
-        first: 0,
-        last: 0,
-        most: 0,
-        waited: false,
-    }
+    Span::default()
 }
 
 pub(crate) fn no_spans() -> [Span; 8]
     ensures { result ≡ replicate 8 no_span }
 {
-    let none = no_span();
-    [none; 8]
+    [Span::default(); 8]
 }
 
 // So many entries without a WAIT.
@@ -133,11 +93,10 @@ fn entries_span(count: u8) -> Span
     ensures { result ≡ entries_span count }
 {
     Span {
-        waits: 0,
         first: count,
         last: count,
         most: count,
-        waited: false,
+        ..Span::default()
     }
 }
 
@@ -145,11 +104,9 @@ fn wait_span(seconds: u16) -> Span
     ensures { result ≡ wait_span seconds }
 {
     Span {
-        waits: added(seconds, 0),
-        first: 0,
-        last: 0,
-        most: 0,
+        waits: seconds.min(TOO_LONG),
         waited: 0 < seconds,
+        ..Span::default()
     }
 }
 
@@ -157,43 +114,30 @@ fn wait_span(seconds: u16) -> Span
 pub(crate) fn seconds_of(span: Span) -> u16
     ensures { result ≡ length_of span }
 {
-    if 0 < span.last {
-        added(span.waits, 1)
-    } else {
-        added(span.waits, 0)
-    }
+    added(span.waits, if 0 < span.last { 1 } else { 0 })
 }
 
 // What a table of spans tells of macro m; nothing for a number that no macro has.
 pub(crate) fn span_at(table: [Span; 8], m: u8) -> Span
     ensures { result ≡ get_or table m no_span }
 {
-    let at = m as usize;
-    if at < MACROS { table[at] } else { no_span() }
+    table.get(m as usize).copied().unwrap_or_default()
 }
 
 // Does a RUN in macro m add anything? Its target is a closed macro with a smaller number.
 pub(crate) fn has_target(closed: [bool; 8], m: u8, target: u8) -> bool
     ensures { result ≡ leads closed m target }
 {
-    if target < m {
-        closed_at(closed, target)
-    } else {
-        false
-    }
+    target < m && closed_at(closed, target)
 }
 
 pub(crate) fn beat_of(role: Role) -> Beat
     ensures { result ≡ beat_of role }
 {
     match role {
-        Role::Plain => Beat::Entry,
-        Role::Open(_) => Beat::Entry,
-        Role::Close => Beat::Entry,
         Role::Run(target) => Beat::Run(target),
         Role::Wait(seconds) => Beat::Wait(seconds),
-        Role::Stop => Beat::Entry,
-        Role::Clear => Beat::Entry,
+        _ => Beat::Entry,
     }
 }
 
@@ -282,11 +226,8 @@ fn span_by(
     let end = end_of(start, size);
     let mut sum = no_span();
     let mut count: u8 = 0;
-    let mut i = start;
-    while i < end {
-        let beat = beat_in(entry_at(words, i));
-        i += 1;
-        match beat {
+    for i in start..end {
+        match beat_in(entry_at(words, i)) {
             Beat::Entry => {
                 count = together(count, 1);
             }
@@ -315,12 +256,10 @@ pub(crate) fn spans_below(words: &[u32], tally: Tally, n: u8) -> Measured
         };
     }
     let m = n - 1;
-    let counts = tally.counts;
-    let closed = tally.closed;
     let below = spans_below(words, tally, m);
-    let size = size_of(counts, closed, tally.opened, m);
+    let size = size_of(tally.counts, tally.closed, tally.opened, m);
     let mut spans = below.spans;
-    spans[m as usize] = span_by(words, below.end, size, m, closed, spans);
+    spans[m as usize] = span_by(words, below.end, size, m, tally.closed, spans);
     Measured {
         spans,
         end: below.end + size,

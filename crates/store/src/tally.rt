@@ -4,10 +4,11 @@ ghost use Rattle.std.specs.Prelude.{◌≡◌};
 ghost use Rattle.store.specs.Checks.{told_permit};
 ghost use Rattle.store.specs.TallySteps.{used_by, free_by, takes_by, passes_by, tally_code, pool_after, appended_by, executed_by, tally_after};
 
+use super::arrays::{count_at, put};
 use super::checks::Denial;
 use super::roles::{Role, is_plain, role_of};
-use super::spans::{Span, beat_of, joined_with, no_span, seconds_of, span_at};
-use super::{ENTRIES, MACROS, NONE, arrays, checks, pool};
+use super::spans::{Span, beat_of, joined_with, seconds_of, span_at};
+use super::{ENTRIES, MACROS, NONE, checks, pool};
 use wire::Command;
 
 #[derive(Clone, Copy)]
@@ -31,7 +32,7 @@ pub struct Survey {
 fn passes_by(flag: bool, role: Role) -> bool
     ensures { result ≡ passes_by flag role }
 {
-    if flag { false } else { is_plain(role) }
+    !flag && is_plain(role)
 }
 
 impl Tally {
@@ -40,17 +41,14 @@ impl Tally {
         ensures { told_permit result ≡ tally_code self command }
     {
         let flag = command.flag;
-        let kind = command.kind;
-        let role = role_of(kind);
+        let role = role_of(command.kind);
         if passes_by(flag, role) {
             return Ok(());
         }
-        let counts = self.counts;
         let closed = self.closed;
-        let spans = self.spans;
         let opened = self.opened;
-        let count = arrays::count_at(counts, opened);
-        let span = span_at(spans, opened);
+        let count = count_at(self.counts, opened);
+        let span = span_at(self.spans, opened);
         if checks::lacks_open(flag, role, opened) {
             return Err(Denial::NoneOpen);
         }
@@ -76,91 +74,66 @@ impl Tally {
     fn used(self) -> usize
         ensures { result ≡ used_by self }
     {
-        let counts = self.counts;
-        let closed = self.closed;
-        pool::used(counts, closed, self.opened)
+        pool::used(self.counts, self.closed, self.opened)
     }
 
     // The entries that are free: the appends that an open macro would still take.
     pub fn free(self) -> u8
         ensures { result ≡ free_by self }
     {
-        let used = self.used();
-        if used < ENTRIES {
-            (ENTRIES - used) as u8
-        } else {
-            0
-        }
+        ENTRIES.saturating_sub(self.used()) as u8
     }
 
-    // Is a macro open, and an entry free?
+    /// Is a macro open, and an entry free?
     fn takes(self) -> bool
         ensures { result ≡ takes_by self }
     {
-        if (self.opened as usize) < MACROS {
-            self.used() < ENTRIES
-        } else {
-            false
-        }
+        (self.opened as usize) < MACROS && self.used() < ENTRIES
     }
 
-    // One entry more of the open macro.
+    /// One entry more of the open macro.
     fn appended(self, role: Role) -> Tally
         ensures { result ≡ appended_by self role }
     {
-        let counts = self.counts;
-        let closed = self.closed;
-        let spans = self.spans;
-        let opened = self.opened;
         if !self.takes() {
             return self;
         }
-        let count = arrays::count_at(counts, opened) + 1;
-        let span = joined_with(span_at(spans, opened), beat_of(role), opened, closed, spans);
-        let counts = arrays::with_count(counts, opened, count);
-        let spans = arrays::with_span(spans, opened, span);
-        Tally {
-            counts,
-            spans,
-            ..self
-        }
+        let opened = self.opened;
+        let count = count_at(self.counts, opened) + 1;
+        let sum = span_at(self.spans, opened);
+        let span = joined_with(sum, beat_of(role), opened, self.closed, self.spans);
+        let mut next = self;
+        put(&mut next.counts, opened, count);
+        put(&mut next.spans, opened, span);
+        next
     }
 
     fn opening(self, m: u8) -> Tally
         ensures { result ≡ executed_by self (Role.Open m) }
     {
-        let counts = self.counts;
-        let spans = self.spans;
-        let counts = arrays::with_count(counts, m, 0);
-        let spans = arrays::with_span(spans, m, no_span());
-        Tally {
-            counts,
-            spans,
-            opened: m,
-            ..self
-        }
+        let mut next = Tally { opened: m, ..self };
+        put(&mut next.counts, m, 0);
+        put(&mut next.spans, m, Span::default());
+        next
     }
 
     fn closing(self) -> Tally
         ensures { result ≡ executed_by self Role.Close }
     {
-        let closed = self.closed;
-        let closed = arrays::marked(closed, self.opened);
-        Tally {
-            closed,
+        let mut next = Tally {
             opened: NONE,
             ..self
-        }
+        };
+        put(&mut next.closed, self.opened, true);
+        next
     }
 
     fn starting(self, m: u8) -> Tally
         ensures { result ≡ executed_by self (Role.Run m) }
     {
-        let spans = self.spans;
-        let left = seconds_of(span_at(spans, m));
         Tally {
             running: m,
-            left,
+            left: seconds_of(span_at(self.spans, m)),
             ..self
         }
     }
@@ -169,11 +142,10 @@ impl Tally {
         ensures { result ≡ executed_by self role }
     {
         match role {
-            Role::Plain => self,
+            Role::Plain | Role::Wait(_) => self,
             Role::Open(m) => self.opening(m),
             Role::Close => self.closing(),
             Role::Run(m) => self.starting(m),
-            Role::Wait(_) => self,
             Role::Stop => Tally {
                 running: NONE,
                 left: 0,
@@ -193,8 +165,7 @@ impl Tally {
         ensures { result ≡ tally_after self command }
     {
         let flag = command.flag;
-        let kind = command.kind;
-        let role = role_of(kind);
+        let role = role_of(command.kind);
         if passes_by(flag, role) {
             return self;
         }
@@ -211,8 +182,6 @@ pub fn keep(words: &mut [u32; 576], tally: Tally, command: Command)
     ensures { words.new ≡ pool_after words.old tally command }
 {
     if command.flag {
-        let counts = tally.counts;
-        let closed = tally.closed;
-        pool::append(words, counts, closed, tally.opened, command);
+        pool::append(words, tally.counts, tally.closed, tally.opened, command);
     }
 }

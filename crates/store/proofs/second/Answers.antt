@@ -54,7 +54,7 @@ returns c =
       not-false c.survey-survey.result.sound c.if-not-survey.false,
       ne_eqb _ 255 c.if-running.false,
       c.still_running.ensures,
-      c.less-left.ensures,
+      c.saturating_sub-left.ensures,
       c.group_due-group.ensures,
       tally_told,
     )

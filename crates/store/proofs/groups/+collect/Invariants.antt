@@ -1,5 +1,4 @@
 -- `store::groups::collect` meets its contract: one law for each turn, and the macro number falls at each call.
-use Prim.Native.Nat.{◌-◌}
 use Rattle.store.specs.TallySteps.{store_of}
 use Rattle.store.specs.GroupSteps.{cursor_of}
 use Rattle.store.proofs.Turns.{Walking}
@@ -10,6 +9,3 @@ decreases-collect l = l.m
 
 abbrev pub invariant-loop-i : goal.invariant-loop-i
 invariant-loop-i l = Walking (store_of l.words l.tally) l.m l.tally.spans (cursor_of l.initial.spot l.initial.group) l.end l.i (cursor_of l.spot l.group)
-
-abbrev pub decreases-loop-i : goal.decreases-loop-i
-decreases-loop-i l = l.end - l.i

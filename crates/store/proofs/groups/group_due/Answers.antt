@@ -13,4 +13,4 @@ pub returns : goal.returns
 returns c =
     let args = c.args in
     due_shown (store_of args.words.now args.tally) args.m args.left args.tally.spans _ _ _ _ c.requires.due
-    c.span_at.ensures c.seconds_of-length.ensures c.less.ensures c.collect-spot.ensures
+    c.span_at.ensures c.seconds_of-length.ensures c.saturating_sub.ensures c.collect-spot.ensures

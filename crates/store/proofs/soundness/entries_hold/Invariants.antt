@@ -16,6 +16,3 @@ pub record Held (words : List ℕ) (es : List Command) (m : ℕ) (closed : List 
 
 abbrev pub invariant-loop-i : goal.invariant-loop-i
 invariant-loop-i l = Held l.words (between l.words l.start l.size) l.m l.closed l.end l.i
-
-abbrev pub decreases-loop-i : goal.decreases-loop-i
-decreases-loop-i l = l.end - l.i

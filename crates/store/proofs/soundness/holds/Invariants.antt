@@ -1,6 +1,6 @@
 -- `store::soundness::holds` meets its contract. The loop's invariant: the macros below m hold. Where all do, the running one has at most
 -- 600 seconds, so the table tells them as they are.
-use Prim.Native.Nat.{ℕ, ◌*◌, ◌-◌, ◌≤◌}
+use Prim.Native.Nat.{ℕ, ◌*◌, ◌≤◌}
 use mathlib.Core.Path.{◌≡◌}
 use mathlib.Core.List.{List}
 use mathlib.Core.Bool.{true}
@@ -24,6 +24,3 @@ pub record Held (words : List ℕ) (tally : Tally) (start m : ℕ) : Type 0 wher
 
 abbrev pub invariant-loop-m : goal.invariant-loop-m
 invariant-loop-m l = Held l.words l.tally l.start l.m
-
-abbrev pub decreases-loop-m : goal.decreases-loop-m
-decreases-loop-m l = 8 - l.m

@@ -17,6 +17,3 @@ pub record Summed (words : List ℕ) (es : List Command) (m : ℕ) (closed : Lis
 
 abbrev pub invariant-loop-i : goal.invariant-loop-i
 invariant-loop-i l = Summed l.words (between l.words l.start l.size) l.m l.closed l.table l.end l.count l.i l.sum
-
-abbrev pub decreases-loop-i : goal.decreases-loop-i
-decreases-loop-i l = l.end - l.i
