@@ -1,5 +1,5 @@
-// The assembler: reads a typed list from standard input and writes the raw list that it says to standard output. Where the text is refused nothing
-// goes there, and the line that says why goes to standard error. What is written is made first, and written at once.
+//! The assembler: reads a typed list from standard input and writes the raw list that it says to standard output. Where the text is refused nothing
+//! goes there, and the line that says why goes to standard error. What is written is made first, and written at once.
 #![tactic(auto)]
 
 ghost use Rattle.std.specs.Prelude.{◌≤◌, ◌≡◌, ◌++◌, length, drop};
@@ -33,27 +33,23 @@ fn put_printed(room: &mut [u8], typed: &[u8]) -> Output
     listing::put_outcome(
         room,
         Numbered::Lines,
-        text::finding_of(made),
-        text::bytes_of(made),
+        text::finding_of(&made),
+        made.unwrap_or(0),
     )
 }
 
 fn main(rt: HostRuntime) {
     let mut typed = input_room();
-    let input = input::read_input(&mut rt.stdin(), &mut typed);
-    if input.failed {
-        let _ = eprintln!(rt; "assemble: standard input cannot be read");
+    let Some(read) = input::read_whole("assemble", &mut rt.stdin(), &mut rt.stderr(), &mut typed)
+    else {
         return;
-    }
-    let read = input.bytes;
+    };
     let mut room = list_room();
-    let output = put_printed(&mut room, &typed[..read]);
-    let put = output.bytes;
+    let output = put_printed(&mut room, read);
+    let put = &room[..output.bytes];
     if output.refused {
-        let _ = rt.stderr().write_all(&room[..put]);
-        return;
-    }
-    if rt.stdout().write_all(&room[..put]).is_err() {
-        let _ = eprintln!(rt; "assemble: standard output cannot be written");
+        let _ = rt.stderr().write_all(put);
+    } else {
+        input::write_whole("assemble", &mut rt.stdout(), &mut rt.stderr(), put);
     }
 }

@@ -1,5 +1,5 @@
-// The lister: reads a raw list from standard input and writes the text that says it to standard output. Where the list is refused nothing goes
-// there, and the line that says why goes to standard error. What is written is made first, and written at once.
+//! The lister: reads a raw list from standard input and writes the text that says it to standard output. Where the list is refused nothing goes
+//! there, and the line that says why goes to standard error. What is written is made first, and written at once.
 #![tactic(auto)]
 
 ghost use Rattle.std.specs.Prelude.{◌≤◌, ◌≡◌, ◌++◌, length, drop};
@@ -36,27 +36,22 @@ fn put_printed(room: &mut [u8], raw: &[u8]) -> Output
     listing::put_outcome(
         room,
         Numbered::Commands,
-        text::finding_of(made),
-        text::bytes_of(made),
+        text::finding_of(&made),
+        made.unwrap_or(0),
     )
 }
 
 fn main(rt: HostRuntime) {
     let mut raw = input_room();
-    let input = input::read_input(&mut rt.stdin(), &mut raw);
-    if input.failed {
-        let _ = eprintln!(rt; "lister: standard input cannot be read");
+    let Some(read) = input::read_whole("lister", &mut rt.stdin(), &mut rt.stderr(), &mut raw) else {
         return;
-    }
-    let read = input.bytes;
+    };
     let mut room = text_room();
-    let output = put_printed(&mut room, &raw[..read]);
-    let put = output.bytes;
+    let output = put_printed(&mut room, read);
+    let put = &room[..output.bytes];
     if output.refused {
-        let _ = rt.stderr().write_all(&room[..put]);
-        return;
-    }
-    if rt.stdout().write_all(&room[..put]).is_err() {
-        let _ = eprintln!(rt; "lister: standard output cannot be written");
+        let _ = rt.stderr().write_all(put);
+    } else {
+        input::write_whole("lister", &mut rt.stdout(), &mut rt.stderr(), put);
     }
 }

@@ -11,8 +11,11 @@ use borrow.Author.Tests.{le-leb, eqb-true}
 use Rattle.words.specs.BigEndian.{has_room, written}
 use Rattle.words.specs.Codes.{◌when◌}
 use Rattle.words.proofs.Laws.{with_room}
+use Rattle.std.specs.Prelude.{Result, Ok, Err}
+use Rattle.std.specs.Result.{result_unwrap_or}
 use Rattle.text.specs.declared.findings.Finding.{Finding}
-use Rattle.text.specs.Findings.{whole, first_found, Outcome, outcome, outcome_for}
+use Rattle.text.specs.declared.findings.Refusal.{Refusal}
+use Rattle.text.specs.Findings.{whole, first_found, Outcome, outcome, outcome_for, translated_of}
 use Rattle.text.proofs.Found.{Silent, found_append, found_silent, silent_found}
 use Rattle.listing.specs.declared.refusals.Numbered.{Numbered}
 use Rattle.listing.specs.declared.refusals.Output.{Output}
@@ -22,6 +25,16 @@ use Rattle.listing.specs.Refusal.{refusal_line, refusal_room, printed_for, outpu
 -- An outcome is what was found and how many bytes there are.
 pub outcome_of : (m : Outcome) (found : Finding) (bytes : ℕ) → found ≡ m.found → bytes ≡ m.bytes → outcome found bytes ≡ m
 outcome_of m found bytes is_found is_bytes = ap (λ f. outcome f bytes) is_found ∙ ap (outcome m.found) is_bytes
+
+-- So it is where the answer itself says how many bytes there are, none on a refusal.
+pub outcome_made : (made : Result ℕ Refusal) (found : Finding) (bytes : ℕ) → found ≡ (translated_of made).found → bytes ≡ result_unwrap_or made 0
+    → outcome found bytes ≡ translated_of made
+outcome_made made found bytes is_found is_bytes = outcome_of (translated_of made) found bytes is_found (is_bytes ∙ go made)
+  where
+    go : (m : Result ℕ Refusal) → result_unwrap_or m 0 ≡ (translated_of m).bytes
+    go (Ok n) = refl
+    go (Err Refusal.TooLong) = refl
+    go (Err (Refusal.BadLine number fault)) = refl
 
 -- By what was found, where the line has room too.
 module _ (numbered : Numbered) (found : Finding) (bytes room : List ℕ)

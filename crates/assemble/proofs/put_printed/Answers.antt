@@ -6,7 +6,7 @@ use lib.ListN.{length}
 use Rattle.text.specs.Assemble.{text_findings, bytes_in}
 use Rattle.listing.specs.declared.refusals.Numbered.{Numbered}
 use Rattle.listing.specs.Refusal.{refusal_room}
-use Rattle.listing.proofs.Outputs.{outcome_of, output, room_left}
+use Rattle.listing.proofs.Outputs.{outcome_made, output, room_left}
 use Rattle.assemble.specs.Printed.{printed}
 use Rattle.assemble.proofs.Printed.{fits, answered, stays}
 use Rattle.assemble.proofs.put_printed.Goals as goal
@@ -18,7 +18,7 @@ returns-clause-refused_value c =
     let typed = c.args.typed.now in
     let room = c.args.room.now in
     let fit = fits typed room c.requires in
-    let is_made = outcome_of _ _ _ c.finding_of.ensures c.bytes_of.ensures in
+    let is_made = outcome_made _ _ _ c.finding_of.ensures c.unwrap_or.ensures in
     let answer = is_made ∙ c.assemble-made.ensures.result_value ∙ answered typed room in
     let lies = c.assemble-made.ensures.room_after ∙ stays typed room in
     let short = put.ensures.found_len_bound in
@@ -33,7 +33,7 @@ returns-clause-bytes_value c =
     let typed = c.args.typed.now in
     let room = c.args.room.now in
     let fit = fits typed room c.requires in
-    let is_made = outcome_of _ _ _ c.finding_of.ensures c.bytes_of.ensures in
+    let is_made = outcome_made _ _ _ c.finding_of.ensures c.unwrap_or.ensures in
     let answer = is_made ∙ c.assemble-made.ensures.result_value ∙ answered typed room in
     let lies = c.assemble-made.ensures.room_after ∙ stays typed room in
     let short = put.ensures.found_len_bound in
@@ -48,7 +48,7 @@ returns-clause-room_after c =
     let typed = c.args.typed.now in
     let room = c.args.room.now in
     let fit = fits typed room c.requires in
-    let is_made = outcome_of _ _ _ c.finding_of.ensures c.bytes_of.ensures in
+    let is_made = outcome_made _ _ _ c.finding_of.ensures c.unwrap_or.ensures in
     let answer = is_made ∙ c.assemble-made.ensures.result_value ∙ answered typed room in
     let lies = c.assemble-made.ensures.room_after ∙ stays typed room in
     let short = put.ensures.found_len_bound in

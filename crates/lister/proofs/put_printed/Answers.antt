@@ -6,7 +6,7 @@ use lib.ListN.{length}
 use Rattle.text.specs.Lister.{text_of, raw_findings}
 use Rattle.listing.specs.declared.refusals.Numbered.{Numbered}
 use Rattle.listing.specs.Refusal.{refusal_room}
-use Rattle.listing.proofs.Outputs.{outcome_of, output, room_left}
+use Rattle.listing.proofs.Outputs.{outcome_made, output, room_left}
 use Rattle.lister.specs.Printed.{printed}
 use Rattle.lister.proofs.Printed.{fits, answered, stays}
 use Rattle.lister.proofs.put_printed.Goals as goal
@@ -18,7 +18,7 @@ returns-clause-refused_value c =
     let raw = c.args.raw.now in
     let room = c.args.room.now in
     let fit = fits raw room (λ i. omega (arith, c.type_inv.raw i)) c.requires in
-    let is_made = outcome_of _ _ _ c.finding_of.ensures c.bytes_of.ensures in
+    let is_made = outcome_made _ _ _ c.finding_of.ensures c.unwrap_or.ensures in
     let answer = is_made ∙ c.list_text-made.ensures.result_value ∙ answered raw room in
     let lies = c.list_text-made.ensures.room_after ∙ stays raw room in
     let short = put.ensures.found_len_bound in
@@ -33,7 +33,7 @@ returns-clause-bytes_value c =
     let raw = c.args.raw.now in
     let room = c.args.room.now in
     let fit = fits raw room (λ i. omega (arith, c.type_inv.raw i)) c.requires in
-    let is_made = outcome_of _ _ _ c.finding_of.ensures c.bytes_of.ensures in
+    let is_made = outcome_made _ _ _ c.finding_of.ensures c.unwrap_or.ensures in
     let answer = is_made ∙ c.list_text-made.ensures.result_value ∙ answered raw room in
     let lies = c.list_text-made.ensures.room_after ∙ stays raw room in
     let short = put.ensures.found_len_bound in
@@ -48,7 +48,7 @@ returns-clause-room_after c =
     let raw = c.args.raw.now in
     let room = c.args.room.now in
     let fit = fits raw room (λ i. omega (arith, c.type_inv.raw i)) c.requires in
-    let is_made = outcome_of _ _ _ c.finding_of.ensures c.bytes_of.ensures in
+    let is_made = outcome_made _ _ _ c.finding_of.ensures c.unwrap_or.ensures in
     let answer = is_made ∙ c.list_text-made.ensures.result_value ∙ answered raw room in
     let lies = c.list_text-made.ensures.room_after ∙ stays raw room in
     let short = put.ensures.found_len_bound in
