@@ -17,11 +17,11 @@ use Rattle.wire.specs.Judge.{plain}
 use Rattle.wire.specs.Read.{sum_of, read_code, span_of}
 use Rattle.text.specs.Findings.{finding}
 use Rattle.rescue.specs.Pieces.{passing, pieces_of, kept_in, kept_of, stretches_in, stretches_of}
-use Rattle.rescue.specs.Answers.{skipped_of, rescue_code, rescued_as, room_after, table_after}
+use Rattle.rescue.specs.Answers.{skipped_of, rescue_code, table_size, rescued_as, room_after, table_after}
 use Rattle.rescue.proofs.Turns.{length_table}
 use Rattle.rescue.proofs.Together.{together}
 use Rattle.rescue.proofs.Bounds.{stretches_456}
-use Rattle.rescue.proofs.Calls.{refused_leaves, taken, too_long_code, enough_room, kept_count, stretch_count, table_front}
+use Rattle.rescue.proofs.Calls.{refused_leaves, taken, too_long_code, enough_room, kept_count, stretch_count, table_count, table_front}
 use Rattle.listing.specs.declared.refusals.Numbered.{Numbered}
 use Rattle.listing.specs.Refusal.{refusal_line}
 use Rattle.rescue_list.specs.Printed.{printed, lines_of, noted}
@@ -81,17 +81,18 @@ module _ (s room table : List ℕ) (code : rescue_code s room table ≡ 0) where
   unfolding room_after
   kept_room = rw (code, short_printed s short)
 
-  pub stretches_few : (rescued_as s room table).stretches ≤ 456
-  stretches_few = omega (arith, stretch_count s room table code, stretches_456 s short)
-
-  module _ (n : ℕ) (is : n ≡ (rescued_as s room table).stretches) (table' : List ℕ) (left : table' ≡ table_after s room table) where
-    -- The bytes of so many stretches at the table's front, and their lines.
+  module _ (n : ℕ) (is : n ≡ table_size (rescued_as s room table).stretches) (table' : List ℕ) (left : table' ≡ table_after s room table) where
+    -- The bytes of the stretches at the table's front, which are no more than a table has at most, and their lines.
     abbrev front : List ℕ
-    front = take (n * 4) table'
+    front = take n table'
+
+    pub table_few : n ≤ 1824
+    table_few = omega (arith, is, table_count s room table code, length_table (stretches_of s), stretches_456 s short)
 
     filled : front ≡ skipped_of s
     filled =
-        let size : n * 4 ≡ 4 * (rescued_as s room table).stretches = omega arith in
+        let size : n ≡ 4 * (rescued_as s room table).stretches =
+        omega (arith, is, table_count s room table code, length_table (stretches_of s), stretch_count s room table code) in
         ap (λ k. take k table') size ∙ ap (take (4 * (rescued_as s room table).stretches)) left ∙ table_front s room table code
 
     pub filled_lines : lines_to front (length front / 4) ≡ noted s

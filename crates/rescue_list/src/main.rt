@@ -1,5 +1,5 @@
-// Rescue: reads a damaged list from standard input, and writes the commands in it that codes 1 to 8 let pass to standard output. For each stretch of bytes
-// that was skipped a line goes to standard error. Where the list is too long nothing goes to standard output, and the line that says so to standard error.
+//! Rescue: reads a damaged list from standard input, and writes the commands in it that codes 1 to 8 let pass to standard output. For each stretch of bytes
+//! that was skipped a line goes to standard error. Where the list is too long nothing goes to standard output, and the line that says so to standard error.
 #![tactic(auto)]
 
 ghost use Rattle.std.specs.Prelude.{◌+◌, ◌*◌, ◌/◌, ◌≤◌, ◌≡◌, ◌++◌, length, drop};
@@ -9,6 +9,7 @@ ghost use Rattle.rescue_list.specs.Steps.{line_with, lines_to};
 
 use listing::Numbered;
 use text::Finding;
+use words::Code;
 
 // A list of the longest and one byte more, so that a longer list is seen to be one.
 const INPUT: usize = walk::LONGEST + 1;
@@ -86,39 +87,33 @@ fn put_printed(room: &mut [u8], notes: &mut [u8], list: &[u8]) -> Output
     ensures notes_after { notes.new ≡ noted list.now ++ drop (length (noted list.now)) notes.old }
 {
     let mut table = [0u8; rescue::TABLE];
-    let rescued = rescue::rescue(list, room, &mut table);
-    let code = rescue::code_of(rescued);
-    if code != 0 {
-        let told = wire::plain(code);
-        let put = listing::put_refusal(notes, Numbered::Commands, Finding { told, number: 0 });
-        return Output {
-            printed: 0,
-            noted: listing::bytes_of(put),
-        };
-    }
-    let size = rescue::stretches_of(rescued) * rescue::STRETCH;
-    Output {
-        printed: rescue::kept_of(rescued),
-        noted: put_lines(notes, &table[..size]),
+    match rescue::rescue(list, room, &mut table) {
+        Ok(done) => Output {
+            printed: done.kept,
+            noted: put_lines(notes, &table[..done.table()]),
+        },
+        Err(refusal) => {
+            let told = wire::plain(refusal.code());
+            let found = Finding { told, number: 0 };
+            Output {
+                printed: 0,
+                noted: listing::put_refusal(notes, Numbered::Commands, found).unwrap_or(0),
+            }
+        }
     }
 }
 
 fn main(rt: HostRuntime) {
     let mut list = input_room();
-    let input = input::read_input(&mut rt.stdin(), &mut list);
-    if input.failed {
-        let _ = eprintln!(rt; "rescue_list: standard input cannot be read");
+    let Some(read) = input::read_whole("rescue_list", &mut rt.stdin(), &mut rt.stderr(), &mut list)
+    else {
         return;
-    }
-    let read = input.bytes;
+    };
     let mut room = list_room();
     let mut notes = notes_room();
-    let output = put_printed(&mut room, &mut notes, &list[..read]);
-    let put = output.printed;
-    let noted = output.noted;
-    if rt.stdout().write_all(&room[..put]).is_err() {
-        let _ = eprintln!(rt; "rescue_list: standard output cannot be written");
-        return;
+    let output = put_printed(&mut room, &mut notes, read);
+    let kept = &room[..output.printed];
+    if input::write_whole("rescue_list", &mut rt.stdout(), &mut rt.stderr(), kept) {
+        let _ = rt.stderr().write_all(&notes[..output.noted]);
     }
-    let _ = rt.stderr().write_all(&notes[..noted]);
 }
