@@ -5,37 +5,17 @@ use mathlib.Core.List.{List, [], ◌∷◌, ◌++◌}
 use mathlib.Core.Bool.{Bool, true, false, cond, not}
 use lib.ListN.{length, drop}
 use lib.Dec.{eqb}
-use borrow.Author.Tests.{eq-eqb, ne_eqb}
+use borrow.Author.Tests.{eq-eqb}
 use Rattle.words.specs.BigEndian.{has_room, written}
 use Rattle.frame.specs.declared.Frame.{Frame}
 use Rattle.frame.specs.Rules.{frame_rule}
 use Rattle.frame.specs.Bytes.{frame_bytes, frame_at, spare_bits_zero, count_holds}
 use Rattle.frame.specs.Answers.{Answer, read_of, write_code, room_after}
 
-abbrev pub refused_with : ℕ → Answer
-refused_with code = record { code = code; taken = [] }
-
 abbrev pub taken_as : Frame → Answer
 taken_as f = record { code = 0; taken = f ∷ [] }
 
--- Reading: the size, then the rules.
-pub wrong_size : (s : List ℕ) → (length s ≡ 32 → ⊥) → refused_with 22 ≡ read_of s
-unfolding read_of
-wrong_size s h = rw (ne_eqb (length s) 32 h)
-
-pub wrong_spare : (s : List ℕ) → length s ≡ 32 → spare_bits_zero s ≡ false → refused_with 23 ≡ read_of s
-unfolding read_of
-wrong_spare s n e = sym (simp (eq-eqb (length s) 32 n, e))
-
-pub wrong_count : (s : List ℕ) → length s ≡ 32 → spare_bits_zero s ≡ true → count_holds s ≡ false → refused_with 23 ≡ read_of s
-unfolding read_of
-wrong_count s n spare e = sym (simp (eq-eqb (length s) 32 n, spare, e))
-
-pub wrong_field : (s : List ℕ) (f : Frame) → length s ≡ 32 → spare_bits_zero s ≡ true → count_holds s ≡ true → f ≡ frame_at s
-    → frame_rule f ≡ false → refused_with 23 ≡ read_of s
-unfolding read_of
-wrong_field s f n spare count made e = sym (simp (eq-eqb (length s) 32 n, spare, count, rw made at e))
-
+-- Reading: what is taken.
 pub taken : (s : List ℕ) (f : Frame) → length s ≡ 32 → spare_bits_zero s ≡ true → count_holds s ≡ true → f ≡ frame_at s
     → frame_rule f ≡ true → taken_as f ≡ read_of s
 unfolding read_of

@@ -99,23 +99,6 @@ number_back : (m : ℕ) → (m < 8) ⊎ (m ≡ 255) → macro_or_none m ≡ true
 number_back m (inl h) = simp (lt-ltb m 8 h)
 number_back m (inr h) = rw h
 
--- "seconds left 0 exactly when byte 26 is 255 and never above 600", in the order of the code's tests.
-abbrev left_rule : ℕ → ℕ → Bool
-left_rule left running = beq (eqb left 0) (eqb running 255) && leb left 600
-
-pub left_idle : (left running : ℕ) → running ≡ 255 → eqb left 0 ≡ left_rule left running
-left_idle left running e = rw (eq-eqb running 255 e) (go (eqb left 0) refl)
-  where
-    go : (t : Bool) → eqb left 0 ≡ t → t ≡ (beq t true && leb left 600)
-    go true zero = let z : left ≤ 600 = omega (arith, eqb-true left 0 zero) in sym (le-leb left 600 z)
-    go false some = refl
-
-pub left_none : (left running : ℕ) → (running ≡ 255 → ⊥) → left ≡ 0 → false ≡ left_rule left running
-left_none left running h e = rw (ne_eqb running 255 h, eq-eqb left 0 e)
-
-pub left_some : (left running : ℕ) → (running ≡ 255 → ⊥) → (left ≡ 0 → ⊥) → leb left 600 ≡ left_rule left running
-left_some left running h n = rw (ne_eqb running 255 h, ne_eqb left 0 n)
-
 -- Two tests for equality that go together.
 exactly : (a b c d : ℕ) → eqb a b ≡ eqb c d → a ≡ b → c ≡ d
 exactly a b c d e h = eqb-true c d (sym e ∙ eq-eqb a b h)

@@ -1,4 +1,4 @@
-// The status frame of 32 bytes: its fields, the rules on them, reading (22, then 23) and writing (23, then 24).
+//! The status frame of 32 bytes: its fields, the rules on them, reading (22, then 23) and writing (23, then 24).
 #![tactic(auto)]
 
 ghost use Rattle.std.proofs.Common.{rules};
@@ -16,16 +16,17 @@ ghost use Rattle.frame.specs.declared.Refusal.TheVariants.{NoRoom};
 use wire::Form;
 use words::{Code, NoRoom};
 
-// A series of images as the frame has it: the seconds that it still runs, the interval, the images so far.
-#[derive(Clone, Copy)]
+/// A series of images as the frame has it: the seconds that it still runs, 65535 of them for ever, the interval in seconds, the images so far.
+#[derive(Clone, Copy, Debug, PartialEq, Eq)]
 pub struct Pace {
     pub time: u16,
     pub interval: u16,
     pub count: u16,
 }
 
-// The fields of a frame. The number of ones in the marks is no field: the writer counts it.
-#[derive(Clone, Copy)]
+/// The fields of a frame. The goal's numbers are the bits of its singles; `running` and `opened` are a macro's number, or 255 for none; `left` is in seconds;
+/// bit m of `closed` marks macro m. The number of ones in these marks is no field: the writer counts it. Rules: "Status frame, 32 bytes".
+#[derive(Clone, Copy, Debug, PartialEq, Eq)]
 pub struct Frame {
     pub image: Pace,
     pub track: Pace,
@@ -74,8 +75,9 @@ impl From<NoRoom> for Refusal {
     }
 }
 
-// The bytes of a frame.
+/// The bytes of a frame.
 pub const SIZE: usize = 32;
+
 // How many macros there are, the number that stands for none, and the longest a macro runs, in seconds.
 const MACROS: u8 = 8;
 
@@ -135,7 +137,7 @@ fn marks_hold(f: Frame) -> bool
     (f.running == NONE || is_marked(f.closed, f.running)) && !is_marked(f.closed, f.opened)
 }
 
-/// Do the fields obey the rules of the status frame? Rules: "Status frame, 32 bytes".
+/// Do the fields obey the rules on them? Rules: "The reader demands".
 #[tactic(auto, unfolding(crate::specs::Rules::frame_rule))]
 pub fn obeys(f: Frame) -> bool
     ensures { result ≡ frame_rule f }
@@ -207,7 +209,7 @@ fn rules_hold(s: &[u8], f: Frame) -> bool
 ///
 /// # Errors
 ///
-/// 22 where they are not 32, then 23 where they break a rule of the status frame.
+/// 22 where they are not 32, then 23 where they break a rule. Rules: "Status frame, 32 bytes", "The reader demands".
 #[tactic(auto, unfolding(crate::specs::Answers::read_of, crate::specs::Answers::read_code))]
 pub fn read_frame(s: &[u8]) -> Result<Frame, Refusal>
     ensures { answer_of result ≡ read_of s.now }
@@ -268,7 +270,7 @@ fn bytes_of(f: Frame) -> [[u8; 4]; 8]
 ///
 /// # Errors
 ///
-/// 23 where the fields break a rule of the status frame, then 24 where the room has fewer bytes than a frame. The room is then as it was.
+/// 23 where the fields do not obey the rules, then 24 where the room has fewer bytes than a frame. The room is then as it was.
 pub fn write_frame(f: Frame, room: &mut [u8]) -> Result<(), Refusal>
     ensures result_value { wrote_of result ≡ write_code f room.old }
     ensures room_after { room.new ≡ room_after f room.old }

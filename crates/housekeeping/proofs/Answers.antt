@@ -16,13 +16,19 @@ use Rattle.housekeeping.specs.Frame.{frame_bytes, frame_at}
 use Rattle.housekeeping.specs.Answers.{Answer, code_of, items_checks, read_code, read_of, wrote_of, write_code}
 use Rattle.words.specs.declared.codes.NoRoom.{NoRoom}
 use Rattle.std.specs.Prelude.{Result, Ok, Err, is_ok}
-use Rattle.housekeeping.proofs.Items.{some_code}
 
 abbrev pub refused_with : ℕ → Answer
 refused_with code = record { code = code; taken = [] }
 
 abbrev pub taken_as : Housekeeping → Answer
 taken_as h = record { code = 0; taken = h ∷ [] }
+
+-- No refusal has code 0.
+pub some_code : (refusal : Refusal) → code_of refusal ≢ 0
+some_code Refusal.CutOff e = omega arith
+some_code Refusal.WrongTag e = omega arith
+some_code Refusal.WrongLength e = omega arith
+some_code Refusal.LeftOver e = omega arith
 
 -- Reading: the items, then what is left over.
 module _ (s : List ℕ) where

@@ -5,4 +5,3 @@ pub mod Unique
 pub mod RoundTrip
 pub mod Calls
 pub mod Answers
-mod Items

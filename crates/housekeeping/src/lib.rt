@@ -13,7 +13,7 @@ ghost use Rattle.housekeeping.specs.Steps.{judged_code};
 
 use words::{Code, NoRoom};
 
-/// The numbers of a frame: the last received number, the last failed one and its code, and the free slots.
+/// The numbers of a frame: the last received number, the last failed one and its code, and the free slots. Rules: "Housekeeping frame, 18 bytes".
 #[derive(Clone, Copy, Debug, PartialEq, Eq)]
 pub struct Housekeeping {
     pub received: u32,
@@ -63,7 +63,7 @@ struct Row {
     size: u8,
 }
 
-// The bytes of a frame.
+/// The bytes of a frame.
 pub const SIZE: usize = 18;
 
 // An item's tag and length, which stand in front of its value.
@@ -108,14 +108,13 @@ fn judge_item(s: &[u8], item: Item) -> Result<(), Refusal>
     ensures { judged_code result ≡ first_of (item_checks item s.now) }
 {
     let row = row_of(item);
-    let at = row.at;
-    if s.len() < at + HEAD + usize::from(row.size) {
+    if s.len() < row.at + HEAD + usize::from(row.size) {
         return Err(Refusal::CutOff);
     }
-    if s[at] != row.tag {
+    if s[row.at] != row.tag {
         return Err(Refusal::WrongTag);
     }
-    if s[at + 1] != row.size {
+    if s[row.at + 1] != row.size {
         return Err(Refusal::WrongLength);
     }
     Ok(())
@@ -147,7 +146,7 @@ fn frame_at(s: &[u8]) -> Housekeeping
 ///
 /// # Errors
 ///
-/// 47, 48 and 49 at each of the four items in turn, then 50 where bytes are left over.
+/// 47, 48 and 49 at each of the four items in turn, then 50 where bytes are left over. Rules: "Housekeeping frame, 18 bytes".
 pub fn read_housekeeping(s: &[u8]) -> Result<Housekeeping, Refusal>
     ensures { answer_of result ≡ read_of s.now }
 {
