@@ -162,11 +162,9 @@ fn frame_at(s: &[u8]) -> Frame
     ensures { result ≡ frame_at s.now }
 {
     let modes = words::byte_at(s, 24);
-    let image = pace_at(s, 0, 8);
-    let track = pace_at(s, 4, 10);
     Frame {
-        image,
-        track,
+        image: pace_at(s, 0, 8),
+        track: pace_at(s, 4, 10),
         x: words::half_at(s, 12),
         y: words::half_at(s, 14),
         xgoal: words::word_at(s, 16),
