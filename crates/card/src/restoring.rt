@@ -22,7 +22,8 @@ fn command_length(command: Command) -> usize
     row.words as usize * words::WORD
 }
 
-// Puts an allowed command behind the first so many bytes of a buffer, and says how many there are then. Once they are too many they stay as they are.
+// Puts an allowed command behind the first so many bytes of a buffer, and says how many there are then. Once they are too many they stay as they are, and
+// a command that has too little room is counted and not made, so that what its writer answers is of no use here.
 #[tactic(auto, using(crate::proofs::Gathering::command_few))]
 fn put_behind(command: Command, buffer: &mut [u8], pos: usize) -> usize
     requires command_value { judge_code command ≡ 0 }

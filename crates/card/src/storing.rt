@@ -43,7 +43,8 @@ fn number_length(value: u32) -> usize
     }
 }
 
-// Writes a number into a room, from a place on, and says which place comes next.
+// Writes a number into a room, from a place on, and says which place comes next. (`while`: the turns end with what is left of the number, and no iterator of
+// the library divides one. Room and place are no `words::Writer`: that leaves out what does not fit, where these ask that all fits.)
 fn put_number(room: &mut [u8], at: usize, value: u32) -> usize
     requires { at + length (number_bytes value) ≤ length room.old }
     ensures value { result ≡ at + length (number_bytes value) }

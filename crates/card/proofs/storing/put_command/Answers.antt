@@ -1,9 +1,7 @@
 -- `put_command` meets its contract: the numbers of a command are the first so many of four.
-use mathlib.Core.Path.{refl, sym, ap, ◌∙◌}
-use Prim.Native.Nat.{◌+◌}
-use lib.ListN.{length}
-use lib.Seq.{sets}
+use mathlib.Core.Path.{refl}
 use Rattle.wire.specs.Write.{flag_bit}
+use Rattle.card.proofs.Stores.{put_as}
 use Rattle.card.proofs.Packing.{stored_is}
 use Rattle.card.proofs.storing.put_command.Goals as goal
 
@@ -12,12 +10,8 @@ put_numbers-requires c =
     let is = stored_is c.args.command _ _ (flag_bit c.args.command.flag) _ c.parts_of-parts.ensures c.row_of-row.ensures refl c.arguments_of.ensures in
     rw is at c.requires
 
-pub returns-clause-value : goal.returns-clause-value
-returns-clause-value c =
+pub returns : goal.returns
+returns c =
     let is = stored_is c.args.command _ _ (flag_bit c.args.command.flag) _ c.parts_of-parts.ensures c.row_of-row.ensures refl c.arguments_of.ensures in
-    c.put_numbers.ensures.value ∙ ap (λ l. c.args.at + length l) (sym is)
-
-pub returns-clause-room_after : goal.returns-clause-room_after
-returns-clause-room_after c =
-    let is = stored_is c.args.command _ _ (flag_bit c.args.command.flag) _ c.parts_of-parts.ensures c.row_of-row.ensures refl c.arguments_of.ensures in
-    c.put_numbers.ensures.room_after ∙ ap (sets c.args.room.now c.args.at) (sym is)
+    let put = put_as _ _ _ _ _ _ is (c.put_numbers.ensures.value, c.put_numbers.ensures.room_after) in
+    record { value = put.0; room_after = put.1 }

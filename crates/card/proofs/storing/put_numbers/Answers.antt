@@ -12,8 +12,7 @@ pub loop-number-preserved : goal.loop-number-preserved
 loop-number-preserved c =
     one_put _ _ _ _ _ _ c.loop-number.invariant c.loop-number-test.true _ _ (c.put_number-next.ensures.value, c.put_number-next.ensures.room_after)
 
-pub returns-clause-value : goal.returns-clause-value
-returns-clause-value c = (all_put _ _ _ _ _ _ c.loop-number.invariant c.loop-number-test.false).0
-
-pub returns-clause-room_after : goal.returns-clause-room_after
-returns-clause-room_after c = (all_put _ _ _ _ _ _ c.loop-number.invariant c.loop-number-test.false).1
+pub returns : goal.returns
+returns c =
+    let all = all_put _ _ _ _ _ _ c.loop-number.invariant c.loop-number-test.false in
+    record { value = all.0; room_after = all.1 }

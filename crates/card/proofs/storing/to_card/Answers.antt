@@ -14,21 +14,14 @@ overflow_add-bytes-2 c =
     let packs : Packs (raw_says c.args.list.now) c.in_ok-count.count c.in_ok-count.pos c.pack.new.buffer = c.in_ok-count.ensures in
     omega (arith, c.number_length.ensures, c.number_length-2.ensures, number_most 1, number_most c.in_ok-count.count, packs)
 
-pub returns-then-room-bytes-clause-result_value : goal.returns-then-room-bytes-clause-result_value
-returns-then-room-bytes-clause-result_value c =
-    rw c.into-then-room-bytes.ensures
-    ((list_no_room _ _ c.if-list-gt-LONGEST.false _ _ _ c.in_ok-count.ensures _ _ c.number_length.ensures c.number_length-2.ensures c.if-room-bytes.true).0)
+pub returns-then-room-bytes : goal.returns-then-room-bytes
+returns-then-room-bytes c =
+    let answered = list_no_room _ _ c.if-list-gt-LONGEST.false _ _ _ c.in_ok-count.ensures _ _ c.number_length.ensures c.number_length-2.ensures
+    c.if-room-bytes.true in
+    record { result_value = rw c.into-then-room-bytes.ensures answered.0; room_after = answered.1 }
 
-pub returns-then-room-bytes-clause-room_after : goal.returns-then-room-bytes-clause-room_after
-returns-then-room-bytes-clause-room_after c =
-    (list_no_room _ _ c.if-list-gt-LONGEST.false _ _ _ c.in_ok-count.ensures _ _ c.number_length.ensures c.number_length-2.ensures c.if-room-bytes.true).1
-
-pub returns-clause-result_value : goal.returns-clause-result_value
-returns-clause-result_value c =
-    (list_stored _ _ c.if-list-gt-LONGEST.false _ _ _ c.in_ok-count.ensures _ _ c.number_length.ensures c.number_length-2.ensures c.if-room-bytes.false _
-    c.put_list.ensures).0
-
-pub returns-clause-room_after : goal.returns-clause-room_after
-returns-clause-room_after c =
-    (list_stored _ _ c.if-list-gt-LONGEST.false _ _ _ c.in_ok-count.ensures _ _ c.number_length.ensures c.number_length-2.ensures c.if-room-bytes.false _
-    c.put_list.ensures).1
+pub returns : goal.returns
+returns c =
+    let answered = list_stored _ _ c.if-list-gt-LONGEST.false _ _ _ c.in_ok-count.ensures _ _ c.number_length.ensures c.number_length-2.ensures
+    c.if-room-bytes.false _ c.put_list.ensures in
+    record { result_value = answered.0; room_after = answered.1 }
