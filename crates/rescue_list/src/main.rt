@@ -9,7 +9,7 @@ ghost use Rattle.rescue_list.specs.Steps.{line_with, lines_to};
 
 use listing::Numbered;
 use text::Finding;
-use words::Code;
+use words::{Code, Writer};
 
 // A list of the longest and one byte more, so that a longer list is seen to be one.
 const INPUT: usize = walk::LONGEST + 1;
@@ -54,11 +54,13 @@ fn put_line(room: &mut [u8], at: usize, start: u32, size: u32) -> usize
     ensures value { result ≡ at + length (line_with start size) }
     ensures room_after { room.new ≡ sets room.old at (line_with start size) }
 {
-    let at = words::put_at(room, at, b"skipped ");
-    let at = words::put_decimal(room, at, start);
-    let at = words::put_at(room, at, b" ");
-    let at = words::put_decimal(room, at, size);
-    words::put_at(room, at, b"\n")
+    let mut line = Writer { room, at };
+    line.text(b"skipped ");
+    line.number(start);
+    line.text(b" ");
+    line.number(size);
+    line.text(b"\n");
+    line.at
 }
 
 // Puts a line for each whole stretch of a table at the front of a room, and says how many bytes they have.
