@@ -1,20 +1,7 @@
-//! The small arrays of the store, a place to each macro. A number that no macro has reads as nothing, and nothing is written there.
-ghost use Rattle.std.specs.Prelude.{◌≡◌, true, false, get_or, set};
+//! The small arrays of the store, a place to each macro. Nothing is written for a number that no macro has.
+ghost use Rattle.std.specs.Prelude.{◌≡◌, set};
 ghost use Rattle.store.specs.Words.{bit};
 ghost use Rattle.store.specs.Pool.{marks_of};
-
-/// The entries that a macro has.
-pub(crate) fn count_at(counts: [u8; 8], m: u8) -> u8
-    ensures { result ≡ get_or counts m 0 }
-{
-    counts.get(m as usize).copied().unwrap_or(0)
-}
-
-pub(crate) fn closed_at(closed: [bool; 8], m: u8) -> bool
-    ensures { result ≡ get_or closed m false }
-{
-    closed.get(m as usize).copied().unwrap_or(false)
-}
 
 /// Puts another value in the place of macro m.
 pub(crate) fn put<T: Copy>(values: &mut [T], m: u8, value: T)

@@ -2,10 +2,10 @@
 ghost use Rattle.std.specs.Prelude.{◌≡◌};
 ghost use Rattle.words.specs.Codes.{first_of};
 ghost use Rattle.store.specs.Checks.{code_of, code_of_some, told_permit, row11, row12, row13, row14, row15, row25, row16, row17, row18, row19};
-ghost use Rattle.store.specs.TallySteps.{entry_checks};
+ghost use Rattle.store.specs.TallySteps.{used_by, entry_checks};
 
-use super::arrays::closed_at;
 use super::roles::{Role, is_clear, is_close, is_open, is_run, number_of};
+use super::tally::Tally;
 use super::{ENTRIES, GROUP, LONGEST, NONE};
 use words::Code;
 
@@ -60,10 +60,10 @@ pub(crate) fn opens_another(role: Role, opened: u8) -> bool
 }
 
 /// Row 13: OPEN of a closed macro.
-pub(crate) fn opens_closed(role: Role, closed: [bool; 8]) -> bool
-    ensures { result ≡ row13 role closed }
+pub(crate) fn opens_closed(role: Role, tally: &Tally) -> bool
+    ensures { result ≡ row13 role tally.now.closed }
 {
-    is_open(role) && closed_at(closed, number_of(role))
+    is_open(role) && tally.is_closed(number_of(role))
 }
 
 /// Row 14: CLOSE of a macro without entries.
@@ -102,10 +102,10 @@ fn runs_upward(flag: bool, role: Role, opened: u8) -> bool
 }
 
 /// Row 18: RUN of a macro not closed.
-fn runs_unclosed(role: Role, closed: [bool; 8]) -> bool
-    ensures { result ≡ row18 role closed }
+fn runs_unclosed(role: Role, tally: &Tally) -> bool
+    ensures { result ≡ row18 role tally.now.closed }
 {
-    is_run(role) && !closed_at(closed, number_of(role))
+    is_run(role) && !tally.is_closed(number_of(role))
 }
 
 /// Row 19: executed RUN, or CLEAR, while a macro runs.
@@ -116,26 +116,19 @@ fn starts_busy(flag: bool, role: Role, running: u8) -> bool
 }
 
 /// Rows 16 to 19, in their order.
-pub(crate) fn permits_entry(
-    flag: bool,
-    role: Role,
-    used: usize,
-    closed: [bool; 8],
-    opened: u8,
-    running: u8,
-) -> Result<(), Denial>
-    ensures { told_permit result ≡ first_of (entry_checks flag role used closed opened running) }
+pub(crate) fn permits_entry(flag: bool, role: Role, tally: &Tally) -> Result<(), Denial>
+    ensures { told_permit result ≡ first_of (entry_checks flag role (used_by tally.now) tally.now.closed tally.now.opened tally.now.running) }
 {
-    if lacks_entry(flag, used) {
+    if lacks_entry(flag, tally.used()) {
         return Err(Denial::NoneFree);
     }
-    if runs_upward(flag, role, opened) {
+    if runs_upward(flag, role, tally.opened) {
         return Err(Denial::NotBelow);
     }
-    if runs_unclosed(role, closed) {
+    if runs_unclosed(role, tally) {
         return Err(Denial::NotClosed);
     }
-    if starts_busy(flag, role, running) {
+    if starts_busy(flag, role, tally.running) {
         return Err(Denial::Running);
     }
     Ok(())

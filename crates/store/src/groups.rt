@@ -9,8 +9,8 @@ ghost use Rattle.store.specs.GroupSteps.{words_in, cursor_of, collected, over, t
 ghost use Rattle.store.specs.GroupSteps as steps;
 ghost use Rattle.store.specs.TallySteps.{store_of};
 
-use super::pool::{Entry, WORDS, end_of, entry_at, found_in, size_of, start_of};
-use super::spans::{Beat, Span, beat_in, has_target, seconds_of, span_at};
+use super::pool::{Entry, WORDS, end_of, entry_at, found_in};
+use super::spans::{Beat, Span, beat_in, seconds_of};
 use super::tally::Tally;
 use super::{GROUP, TOO_LONG};
 use wire::{Form, Kind};
@@ -130,13 +130,13 @@ fn is_over(span: Span, left: u16) -> bool
 }
 
 // What the walk does at a RUN in macro m: it follows it, unless its seconds are over before the one looked for, or it adds nothing.
-fn run_turn(target: u8, m: u8, closed: [bool; 8], table: [Span; 8], left: u16) -> Turn
-    ensures { result ≡ turn_in closed table m left (Beat.Run target) }
+fn run_turn(target: u8, tally: &Tally, m: u8, left: u16) -> Turn
+    ensures { result ≡ turn_in tally.now.closed tally.now.spans m left (Beat.Run target) }
 {
-    if !has_target(closed, m, target) {
+    if !tally.leads(m, target) {
         return Turn::Waits(0);
     }
-    let span = span_at(table, target);
+    let span = tally.span(target);
     if is_over(span, left) {
         Turn::Waits(span.waits)
     } else {
@@ -145,13 +145,13 @@ fn run_turn(target: u8, m: u8, closed: [bool; 8], table: [Span; 8], left: u16) -
 }
 
 // What the walk does at an entry of macro m.
-fn turn_in(beat: Beat, m: u8, closed: [bool; 8], table: [Span; 8], left: u16) -> Turn
-    ensures { result ≡ turn_in closed table m left beat }
+fn turn_in(beat: Beat, tally: &Tally, m: u8, left: u16) -> Turn
+    ensures { result ≡ turn_in tally.now.closed tally.now.spans m left beat }
 {
     match beat {
         Beat::Entry => Turn::Takes,
         Beat::Wait(seconds) => Turn::Waits(seconds),
-        Beat::Run(target) => run_turn(target, m, closed, table, left),
+        Beat::Run(target) => run_turn(target, tally, m, left),
     }
 }
 
@@ -190,21 +190,20 @@ fn waited(spot: Spot, seconds: u16) -> Spot
 }
 
 // Walks over macro m from a spot on, by a tally that has the spans, and puts the entries that belong to the second looked for into the group.
-fn collect(words: &[u32], tally: Tally, m: u8, spot: Spot, group: &mut [u32]) -> Spot
+fn collect(words: &[u32], tally: &Tally, m: u8, spot: Spot, group: &mut [u32]) -> Spot
     requires words_len { length words.now ≡ 576 }
-    requires walked { Walked (store_of words.now tally) m tally.spans group.old }
-    ensures { cursor_of result group.new ≡ collected (cursor_of spot group.old) (items_of (flat (store_of words.now tally) m)) }
+    requires walked { Walked (store_of words.now tally.now) m tally.now.spans group.old }
+    ensures { cursor_of result group.new ≡ collected (cursor_of spot group.old) (items_of (flat (store_of words.now tally.now) m)) }
 {
-    let closed = tally.closed;
-    let start = start_of(tally.counts, closed, tally.opened, m);
-    let end = end_of(start, size_of(tally.counts, closed, tally.opened, m));
+    let start = tally.start(m);
+    let end = end_of(start, tally.size(m));
     let mut spot = spot;
     for i in start..end {
         if spot.done {
             return spot;
         }
         let entry = entry_at(words, i);
-        match turn_in(beat_in(entry), m, closed, tally.spans, spot.left) {
+        match turn_in(beat_in(entry), tally, m, spot.left) {
             Turn::Takes => {
                 spot = taken(spot, group, entry);
             }
@@ -220,12 +219,12 @@ fn collect(words: &[u32], tally: Tally, m: u8, spot: Spot, group: &mut [u32]) ->
 }
 
 // The group that is due in macro m when so many of its seconds are left, by a tally that has the spans.
-pub(crate) fn group_due(words: &[u32], tally: Tally, m: u8, left: u16) -> Group
+pub(crate) fn group_due(words: &[u32], tally: &Tally, m: u8, left: u16) -> Group
     requires words_len { length words.now ≡ 576 }
-    requires due { Due (store_of words.now tally) m tally.spans }
-    ensures { result ≡ group_of (group_due (store_of words.now tally) m left) }
+    requires due { Due (store_of words.now tally.now) m tally.now.spans }
+    ensures { result ≡ group_of (group_due (store_of words.now tally.now) m left) }
 {
-    let length = seconds_of(span_at(tally.spans, m));
+    let length = seconds_of(tally.span(m));
     let mut group: [u32; 192] = [0; 192];
     let spot = Spot {
         left: length.saturating_sub(left),

@@ -147,7 +147,7 @@ pub fn survey(pool: &[u32; 576], tally: Tally) -> Survey
     let measured = spans::spans_below(pool, tally, MACROS as u8);
     let spans = measured.spans;
     let tally = Tally { spans, ..tally };
-    let sound = soundness::holds(pool, tally, measured.end);
+    let sound = soundness::holds(pool, &tally, measured.end);
     Survey { sound, tally }
 }
 
@@ -174,7 +174,7 @@ pub fn second(pool: &[u32; 576], tally: Tally) -> Result<Step, Unsound>
         });
     }
     let tally = survey.tally;
-    let group = groups::group_due(pool, tally, running, left);
+    let group = groups::group_due(pool, &tally, running, left);
     let left = left.saturating_sub(1);
     Ok(Step {
         running: still_running(running, left),

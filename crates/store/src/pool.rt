@@ -1,13 +1,13 @@
-// One pool for the entries of all macros: where each macro's entries lie, what the words of an entry say, and one entry more.
-// The macros in use, open or closed, lie one behind another in the order of their numbers, so that where one starts follows from the counts.
+//! One pool for the entries of all macros: what the words of an entry say, and one entry more.
+//! The macros in use, open or closed, lie one behind another in the order of their numbers, so that where one starts follows from the counts.
 ghost use Rattle.std.specs.Prelude.{◌+◌, ◌*◌, ◌/◌, ◌<◌, ◌≤◌, min, ◌≡◌, length, get_or};
 ghost use Rattle.wire.specs.Table.{rule_of};
 ghost use Rattle.store.specs.Words.{no_command, commands_in, head_of, inserted};
-ghost use Rattle.store.specs.Pool.{in_use, size_of, start_of, used_of, words_after};
+ghost use Rattle.store.specs.Pool.{words_after};
 ghost use Rattle.store.specs.PoolSteps.{command_in, raised};
 ghost use Rattle.store.specs.GroupSteps.{words_in, words_at};
 
-use super::arrays::{closed_at, count_at};
+use super::tally::Tally;
 use super::{ENTRIES, MACROS};
 use wire::{Command, Form};
 
@@ -20,42 +20,6 @@ pub(crate) struct Entry {
     pub head: u32,
     pub first: u32,
     pub second: u32,
-}
-
-// Is macro m open or closed?
-pub(crate) fn in_use(closed: [bool; 8], opened: u8, m: u8) -> bool
-    ensures { result ≡ in_use closed opened m }
-{
-    closed_at(closed, m) || opened == m
-}
-
-// The entries that macro m has in the pool.
-pub(crate) fn size_of(counts: [u8; 8], closed: [bool; 8], opened: u8, m: u8) -> usize
-    ensures { (result ≡ size_of counts closed opened m) × (result ≤ 255) }
-{
-    if in_use(closed, opened, m) {
-        count_at(counts, m) as usize
-    } else {
-        0
-    }
-}
-
-// Where macro m starts: behind the macros in use below it.
-pub(crate) fn start_of(counts: [u8; 8], closed: [bool; 8], opened: u8, m: u8) -> usize
-    ensures { result ≡ start_of counts closed opened m }
-{
-    let mut sum: usize = 0;
-    for i in 0..m {
-        sum += size_of(counts, closed, opened, i);
-    }
-    sum
-}
-
-// The entries in use.
-pub(crate) fn used(counts: [u8; 8], closed: [bool; 8], opened: u8) -> usize
-    ensures { result ≡ used_of counts closed opened }
-{
-    start_of(counts, closed, opened, MACROS as u8)
 }
 
 // Where entries that start here end, and no further than the pool.
@@ -115,24 +79,19 @@ fn insert(words: &mut [u32], from: usize, to: usize, command: Command)
     words[from + 2] = parts.second;
 }
 
-// One entry more for the open macro, where one is open and an entry is free.
-pub(crate) fn append(
-    words: &mut [u32],
-    counts: [u8; 8],
-    closed: [bool; 8],
-    opened: u8,
-    command: Command,
-)
+/// One entry more for the open macro, where one is open and an entry is free.
+pub(crate) fn append(words: &mut [u32], tally: &Tally, command: Command)
     requires { length words.old ≡ 576 }
-    ensures { words.new ≡ words_after words.old counts closed opened command }
+    ensures { words.new ≡ words_after words.old tally.now.counts tally.now.closed tally.now.opened command }
 {
+    let opened = tally.opened;
     if MACROS <= opened as usize {
         return;
     }
-    let top = used(counts, closed, opened);
+    let top = tally.used();
     if ENTRIES <= top {
         return;
     }
-    let end = start_of(counts, closed, opened, opened + 1);
+    let end = tally.start(opened + 1);
     insert(words, end * WORDS, top * WORDS, command);
 }

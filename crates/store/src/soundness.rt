@@ -9,9 +9,8 @@ ghost use Rattle.store.specs.PoolSteps.{command_in};
 ghost use Rattle.store.specs.SpanSteps.{length_of, no_span, spans_to};
 ghost use Rattle.store.specs.TallySteps.{store_of, used_by, form_holds, entries_by, macro_by};
 
-use super::arrays::{closed_at, count_at};
-use super::pool::{Entry, end_of, entry_at, found_in, size_of};
-use super::spans::{Span, has_target, seconds_of, span_at};
+use super::pool::{Entry, end_of, entry_at, found_in};
+use super::spans::{Span, seconds_of};
 use super::tally::Tally;
 use super::{ENTRIES, GROUP, LONGEST, MACROS, NONE};
 use wire::{Form, Row};
@@ -24,16 +23,16 @@ fn passes(row: Row, first: u32, second: u32) -> bool
 }
 
 // A RUN in macro m passes 8 and, its target being a closed macro with a smaller number, 17 and 18.
-fn run_holds(first: u32, second: u32, m: u8, closed: [bool; 8]) -> bool
-    ensures { result ≡ form_holds closed m Form.Run first second }
+fn run_holds(first: u32, second: u32, tally: &Tally, m: u8) -> bool
+    ensures { result ≡ form_holds tally.now.closed m Form.Run first second }
 {
     // In range, so the eight bits are all of it.
-    passes(wire::row_of(Form::Run), first, second) && has_target(closed, m, (first % 256) as u8)
+    passes(wire::row_of(Form::Run), first, second) && tally.leads(m, (first % 256) as u8)
 }
 
 // An entry of macro m with flag 1, whose form is known, passes 8 to 10 and, for a RUN, 17 and 18. In each arm the row is a constant.
-fn form_holds(form: Form, first: u32, second: u32, m: u8, closed: [bool; 8]) -> bool
-    ensures { result ≡ form_holds closed m form first second }
+fn form_holds(form: Form, first: u32, second: u32, tally: &Tally, m: u8) -> bool
+    ensures { result ≡ form_holds tally.now.closed m form first second }
 {
     match form {
         Form::ImgPwr => passes(wire::row_of(Form::ImgPwr), first, second),
@@ -47,7 +46,7 @@ fn form_holds(form: Form, first: u32, second: u32, m: u8, closed: [bool; 8]) -> 
         Form::FlushAuto => passes(wire::row_of(Form::FlushAuto), first, second),
         Form::Open => passes(wire::row_of(Form::Open), first, second),
         Form::Close => passes(wire::row_of(Form::Close), first, second),
-        Form::Run => run_holds(first, second, m, closed),
+        Form::Run => run_holds(first, second, tally, m),
         Form::Wait => passes(wire::row_of(Form::Wait), first, second),
         Form::Stop => passes(wire::row_of(Form::Stop), first, second),
         Form::Clear => passes(wire::row_of(Form::Clear), first, second),
@@ -55,25 +54,25 @@ fn form_holds(form: Form, first: u32, second: u32, m: u8, closed: [bool; 8]) -> 
 }
 
 // An entry of macro m is a flag-1 command that passes 8 to 10 and, for a RUN, 17 and 18.
-fn entry_holds(entry: Entry, m: u8, closed: [bool; 8]) -> bool
-    ensures { result ≡ entry_holds closed m (command_in entry) }
+fn entry_holds(entry: Entry, tally: &Tally, m: u8) -> bool
+    ensures { result ≡ entry_holds tally.now.closed m (command_in entry) }
 {
     match found_in(entry.head) {
         Some((form, _)) if entry.head % 2 == 1 => {
-            form_holds(form, entry.first, entry.second, m, closed)
+            form_holds(form, entry.first, entry.second, tally, m)
         }
         _ => false,
     }
 }
 
 // Do all entries of macro m hold, which start here and are so many?
-fn entries_hold(words: &[u32], start: usize, size: usize, m: u8, closed: [bool; 8]) -> bool
+fn entries_hold(words: &[u32], start: usize, size: usize, tally: &Tally, m: u8) -> bool
     requires { (length words.now ≡ 576) × (size ≤ 255) }
-    ensures { result ≡ entries_by closed m (between words.now start size) }
+    ensures { result ≡ entries_by tally.now.closed m (between words.now start size) }
 {
     let end = end_of(start, size);
     for i in start..end {
-        if !entry_holds(entry_at(words, i), m, closed) {
+        if !entry_holds(entry_at(words, i), tally, m) {
             return false;
         }
     }
@@ -89,43 +88,43 @@ fn closed_fits(count: u8, span: Span) -> bool
 }
 
 // Does macro m hold, whose entries start here, by a tally that has the spans? One that is neither closed nor open is not judged.
-fn macro_holds(words: &[u32], tally: Tally, start: usize, size: usize, m: u8) -> bool
+fn macro_holds(words: &[u32], tally: &Tally, start: usize, size: usize, m: u8) -> bool
     requires { (length words.now ≡ 576) × (size ≤ 255) }
-    ensures { result ≡ macro_by tally m (between words.now start size) }
+    ensures { result ≡ macro_by tally.now m (between words.now start size) }
 {
-    let closed = tally.closed;
-    if closed_at(closed, m) {
-        closed_fits(count_at(tally.counts, m), span_at(tally.spans, m))
-            && entries_hold(words, start, size, m, closed)
+    if tally.is_closed(m) {
+        closed_fits(tally.count(m), tally.span(m)) && entries_hold(words, start, size, tally, m)
     } else {
-        tally.opened != m || entries_hold(words, start, size, m, closed)
+        tally.opened != m || entries_hold(words, start, size, tally, m)
     }
 }
 
 // A running macro is closed, with 1 to its length seconds left.
-fn running_holds(running: u8, left: u16, closed: [bool; 8], table: [Span; 8]) -> bool
-    ensures { result ≡ (eqb running 255 || (get_or closed running false && leb 1 left && leb left (length_of (get_or table running no_span)))) }
+fn running_holds(tally: &Tally) -> bool
+    ensures { result ≡ (eqb tally.now.running 255 || (get_or tally.now.closed tally.now.running false && leb 1 tally.now.left && leb tally.now.left (length_of (get_or tally.now.spans tally.now.running no_span)))) }
 {
-    running == NONE
-        || (closed_at(closed, running) && 1 <= left && left <= seconds_of(span_at(table, running)))
+    tally.running == NONE
+        || (tally.is_closed(tally.running)
+            && 1 <= tally.left
+            && tally.left <= seconds_of(tally.span(tally.running)))
 }
 
 // The whole store, by a tally that has the spans, and its entries in use.
-pub(crate) fn holds(words: &[u32], tally: Tally, used: usize) -> bool
+pub(crate) fn holds(words: &[u32], tally: &Tally, used: usize) -> bool
     requires words_len { length words.now ≡ 576 }
-    requires spans_value { (tally.spans ≡ spans_to (store_of words.now tally) 8) × (used ≡ used_by tally) }
-    ensures { result ≡ store_sound (store_of words.now tally) }
+    requires spans_value { (tally.now.spans ≡ spans_to (store_of words.now tally.now) 8) × (used ≡ used_by tally.now) }
+    ensures { result ≡ store_sound (store_of words.now tally.now) }
 {
     if ENTRIES < used {
         return false;
     }
     let mut start = 0;
     for m in 0..MACROS as u8 {
-        let size = size_of(tally.counts, tally.closed, tally.opened, m);
+        let size = tally.size(m);
         if !macro_holds(words, tally, start, size, m) {
             return false;
         }
         start += size;
     }
-    running_holds(tally.running, tally.left, tally.closed, tally.spans)
+    running_holds(tally)
 }

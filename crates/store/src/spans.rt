@@ -7,8 +7,7 @@ ghost use Rattle.store.specs.SpanSteps.{no_span, entries_span, wait_span, grown,
 ghost use Rattle.store.specs.SpanSteps.{beat_of, beat_in, beat_as, leads};
 ghost use Rattle.store.specs.TallySteps.{store_of};
 
-use super::arrays::closed_at;
-use super::pool::{Entry, end_of, entry_at, size_of};
+use super::pool::{Entry, end_of, entry_at};
 use super::roles::Role;
 use super::tally::Tally;
 use super::{TOO_LONG, TOO_MANY};
@@ -117,20 +116,6 @@ pub(crate) fn seconds_of(span: Span) -> u16
     added(span.waits, if 0 < span.last { 1 } else { 0 })
 }
 
-// What a table of spans tells of macro m; nothing for a number that no macro has.
-pub(crate) fn span_at(table: [Span; 8], m: u8) -> Span
-    ensures { result ≡ get_or table m no_span }
-{
-    table.get(m as usize).copied().unwrap_or_default()
-}
-
-// Does a RUN in macro m add anything? Its target is a closed macro with a smaller number.
-pub(crate) fn has_target(closed: [bool; 8], m: u8, target: u8) -> bool
-    ensures { result ≡ leads closed m target }
-{
-    target < m && closed_at(closed, target)
-}
-
 pub(crate) fn beat_of(role: Role) -> Beat
     ensures { result ≡ beat_of role }
 {
@@ -178,11 +163,11 @@ pub(crate) fn beat_in(entry: Entry) -> Beat
 }
 
 // The span of a RUN in macro m.
-fn run_span(target: u8, m: u8, closed: [bool; 8], table: [Span; 8]) -> Span
-    ensures { result ≡ span_in closed table m (Beat.Run target) }
+fn run_span(tally: &Tally, m: u8, target: u8) -> Span
+    ensures { result ≡ span_in tally.now.closed tally.now.spans m (Beat.Run target) }
 {
-    if has_target(closed, m, target) {
-        span_at(table, target)
+    if tally.leads(m, target) {
+        tally.span(target)
     } else {
         no_span()
     }
@@ -200,28 +185,21 @@ fn with_entries(sum: Span, count: u8) -> Span
 }
 
 // The span of a list and an entry of macro m behind it.
-pub(crate) fn joined_with(sum: Span, beat: Beat, m: u8, closed: [bool; 8], table: [Span; 8]) -> Span
-    ensures { result ≡ joined_of sum (span_in closed table m beat) }
+pub(crate) fn joined_with(sum: Span, beat: Beat, tally: &Tally, m: u8) -> Span
+    ensures { result ≡ joined_of sum (span_in tally.now.closed tally.now.spans m beat) }
 {
     match beat {
         Beat::Entry => joined(sum, entries_span(1)),
         Beat::Wait(seconds) => joined(sum, wait_span(seconds)),
-        Beat::Run(target) => joined(sum, run_span(target, m, closed, table)),
+        Beat::Run(target) => joined(sum, run_span(tally, m, target)),
     }
 }
 
 // The span of the entries of macro m, which start here and are so many, by the spans of the macros below it. Entries without a WAIT or a RUN between
 // them are only counted, and joined together.
-fn span_by(
-    words: &[u32],
-    start: usize,
-    size: usize,
-    m: u8,
-    closed: [bool; 8],
-    table: [Span; 8],
-) -> Span
+fn span_by(words: &[u32], start: usize, size: usize, tally: &Tally, m: u8) -> Span
     requires { (length words.now ≡ 576) × (size ≤ 255) }
-    ensures { result ≡ spans_from closed table m no_span (between words.now start size) }
+    ensures { result ≡ spans_from tally.now.closed tally.now.spans m no_span (between words.now start size) }
 {
     let end = end_of(start, size);
     let mut sum = no_span();
@@ -236,7 +214,7 @@ fn span_by(
                 count = 0;
             }
             Beat::Run(target) => {
-                sum = joined(with_entries(sum, count), run_span(target, m, closed, table));
+                sum = joined(with_entries(sum, count), run_span(tally, m, target));
                 count = 0;
             }
         }
@@ -257,9 +235,10 @@ pub(crate) fn spans_below(words: &[u32], tally: Tally, n: u8) -> Measured
     }
     let m = n - 1;
     let below = spans_below(words, tally, m);
-    let size = size_of(tally.counts, tally.closed, tally.opened, m);
+    let size = tally.size(m);
     let mut spans = below.spans;
-    spans[m as usize] = span_by(words, below.end, size, m, tally.closed, spans);
+    let told = Tally { spans, ..tally };
+    spans[m as usize] = span_by(words, below.end, size, &told, m);
     Measured {
         spans,
         end: below.end + size,

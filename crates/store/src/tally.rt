@@ -1,13 +1,15 @@
 // A tally: the store without its pool, and what each macro spans. It is all that codes 11 to 19 and 25 ask, so a run of lists judges and carries out
 // its commands by a tally, and the pool stays where it is.
-ghost use Rattle.std.specs.Prelude.{◌≡◌};
+ghost use Rattle.std.specs.Prelude.{◌≡◌, ◌≤◌, false, get_or};
+ghost use Rattle.store.specs.Pool.{in_use, size_of, start_of};
+ghost use Rattle.store.specs.SpanSteps.{no_span, leads};
 ghost use Rattle.store.specs.Checks.{told_permit};
 ghost use Rattle.store.specs.TallySteps.{used_by, free_by, takes_by, passes_by, tally_code, pool_after, appended_by, executed_by, tally_after};
 
-use super::arrays::{count_at, put};
+use super::arrays::put;
 use super::checks::Denial;
 use super::roles::{Role, is_plain, role_of};
-use super::spans::{Span, beat_of, joined_with, seconds_of, span_at};
+use super::spans::{Span, beat_of, joined_with, seconds_of};
 use super::{ENTRIES, MACROS, NONE, checks, pool};
 use wire::Command;
 
@@ -36,6 +38,69 @@ fn passes_by(flag: bool, role: Role) -> bool
 }
 
 impl Tally {
+    /// The entries that macro m counts; none for a number that no macro has.
+    pub(crate) fn count(&self, m: u8) -> u8
+        ensures { result ≡ get_or self.now.counts m 0 }
+    {
+        self.counts.get(m as usize).copied().unwrap_or(0)
+    }
+
+    pub(crate) fn is_closed(&self, m: u8) -> bool
+        ensures { result ≡ get_or self.now.closed m false }
+    {
+        self.closed.get(m as usize).copied().unwrap_or(false)
+    }
+
+    /// What macro m spans; nothing for a number that no macro has.
+    pub(crate) fn span(&self, m: u8) -> Span
+        ensures { result ≡ get_or self.now.spans m no_span }
+    {
+        self.spans.get(m as usize).copied().unwrap_or_default()
+    }
+
+    /// Is macro m open or closed?
+    fn is_in_use(&self, m: u8) -> bool
+        ensures { result ≡ in_use self.now.closed self.now.opened m }
+    {
+        self.is_closed(m) || self.opened == m
+    }
+
+    /// The entries that macro m has in the pool.
+    pub(crate) fn size(&self, m: u8) -> usize
+        ensures { (result ≡ size_of self.now.counts self.now.closed self.now.opened m) × (result ≤ 255) }
+    {
+        if self.is_in_use(m) {
+            self.count(m) as usize
+        } else {
+            0
+        }
+    }
+
+    /// Where macro m starts in the pool: behind the macros in use below it.
+    pub(crate) fn start(&self, m: u8) -> usize
+        ensures { result ≡ start_of self.now.counts self.now.closed self.now.opened m }
+    {
+        let mut sum: usize = 0;
+        for i in 0..m {
+            sum += self.size(i);
+        }
+        sum
+    }
+
+    /// The entries in use.
+    pub(crate) fn used(&self) -> usize
+        ensures { result ≡ used_by self.now }
+    {
+        self.start(MACROS as u8)
+    }
+
+    /// Does a RUN in macro m add anything? Its target is a closed macro with a smaller number.
+    pub(crate) fn leads(&self, m: u8, target: u8) -> bool
+        ensures { result ≡ leads self.now.closed m target }
+    {
+        target < m && self.is_closed(target)
+    }
+
     // Codes 11 to 19 and 25, on a command that passed 8 to 10.
     pub fn permits(self, command: Command) -> Result<(), Denial>
         ensures { told_permit result ≡ tally_code self command }
@@ -45,17 +110,16 @@ impl Tally {
         if passes_by(flag, role) {
             return Ok(());
         }
-        let closed = self.closed;
         let opened = self.opened;
-        let count = count_at(self.counts, opened);
-        let span = span_at(self.spans, opened);
+        let count = self.count(opened);
+        let span = self.span(opened);
         if checks::lacks_open(flag, role, opened) {
             return Err(Denial::NoneOpen);
         }
         if checks::opens_another(role, opened) {
             return Err(Denial::AnotherOpen);
         }
-        if checks::opens_closed(role, closed) {
+        if checks::opens_closed(role, &self) {
             return Err(Denial::AlreadyClosed);
         }
         if checks::closes_empty(role, count) {
@@ -67,14 +131,7 @@ impl Tally {
         if checks::closes_too_many(role, span.most) {
             return Err(Denial::TooMany);
         }
-        checks::permits_entry(flag, role, self.used(), closed, opened, self.running)
-    }
-
-    // The entries in use.
-    fn used(self) -> usize
-        ensures { result ≡ used_by self }
-    {
-        pool::used(self.counts, self.closed, self.opened)
+        checks::permits_entry(flag, role, &self)
     }
 
     // The entries that are free: the appends that an open macro would still take.
@@ -85,8 +142,8 @@ impl Tally {
     }
 
     /// Is a macro open, and an entry free?
-    fn takes(self) -> bool
-        ensures { result ≡ takes_by self }
+    fn takes(&self) -> bool
+        ensures { result ≡ takes_by self.now }
     {
         (self.opened as usize) < MACROS && self.used() < ENTRIES
     }
@@ -99,9 +156,8 @@ impl Tally {
             return self;
         }
         let opened = self.opened;
-        let count = count_at(self.counts, opened) + 1;
-        let sum = span_at(self.spans, opened);
-        let span = joined_with(sum, beat_of(role), opened, self.closed, self.spans);
+        let count = self.count(opened) + 1;
+        let span = joined_with(self.span(opened), beat_of(role), &self, opened);
         let mut next = self;
         put(&mut next.counts, opened, count);
         put(&mut next.spans, opened, span);
@@ -133,7 +189,7 @@ impl Tally {
     {
         Tally {
             running: m,
-            left: seconds_of(span_at(self.spans, m)),
+            left: seconds_of(self.span(m)),
             ..self
         }
     }
@@ -182,6 +238,6 @@ pub fn keep(words: &mut [u32; 576], tally: Tally, command: Command)
     ensures { words.new ≡ pool_after words.old tally command }
 {
     if command.flag {
-        pool::append(words, tally.counts, tally.closed, tally.opened, command);
+        pool::append(words, &tally, command);
     }
 }

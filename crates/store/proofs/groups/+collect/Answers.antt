@@ -9,8 +9,8 @@ use Rattle.store.proofs.groups.+collect.Goals as goal
 pub loop-i-init : goal.loop-i-init
 loop-i-init t c =
     let args = c.args in
-    walk_opens (store_of args.words.now args.tally) args.m args.tally.spans (cursor_of args.spot args.group.now) _ _ _
-    c.requires.words_len c.requires.walked c.start_of-start.ensures c.size_of.ensures.0 c.end_of-end.ensures
+    walk_opens (store_of args.words.now args.tally.now) args.m args.tally.now.spans (cursor_of args.spot args.group.now) _ _ _
+    c.requires.words_len c.requires.walked c.start-start.ensures c.size.ensures.0 c.end_of-end.ensures
 
 pub returns-then-spot : goal.returns-then-spot
 returns-then-spot t c = walk_done c.loop-i.invariant c.if-spot.true

@@ -7,10 +7,10 @@ use Rattle.store.proofs.groups.group_due.Goals as goal
 pub collect-spot-requires-clause-walked : goal.collect-spot-requires-clause-walked
 collect-spot-requires-clause-walked c =
     let args = c.args in
-    walked_due (store_of args.words.now args.tally) args.m args.tally.spans _ c.requires.due refl
+    walked_due (store_of args.words.now args.tally.now) args.m args.tally.now.spans _ c.requires.due refl
 
 pub returns : goal.returns
 returns c =
     let args = c.args in
-    due_shown (store_of args.words.now args.tally) args.m args.left args.tally.spans _ _ _ _ c.requires.due
-    c.span_at.ensures c.seconds_of-length.ensures c.saturating_sub.ensures c.collect-spot.ensures
+    due_shown (store_of args.words.now args.tally.now) args.m args.left args.tally.now.spans _ _ _ _ c.requires.due
+    c.span.ensures c.seconds_of-length.ensures c.saturating_sub.ensures c.collect-spot.ensures

@@ -33,14 +33,14 @@ module _ (ws counts : List ℕ) (closed : List Bool) (opened : ℕ) (c : Command
 
 pub overflow_mul-end : goal.overflow_mul-end
 overflow_mul-end c =
-    let ends_within : c.start_of-end.result ≤ c.used-top.result = let args = c.args in
-    within args.words.now args.counts args.closed args.opened args.command c.if-opened-ge-MACROS.false _ c.used-top.ensures _
-    c.start_of-end.ensures in
+    let ends_within : c.start-end.result ≤ c.used-top.result = let args = c.args in
+    within args.words.now args.tally.now.counts args.tally.now.closed args.tally.now.opened args.command c.if-opened-ge-MACROS.false _ c.used-top.ensures _
+    c.start-end.ensures in
     omega (arith, ends_within)
 
 pub insert-requires : goal.insert-requires
 insert-requires c =
-    let ends_within : c.start_of-end.result ≤ c.used-top.result = let args = c.args in
-    within args.words.now args.counts args.closed args.opened args.command c.if-opened-ge-MACROS.false _ c.used-top.ensures _
-    c.start_of-end.ensures in
+    let ends_within : c.start-end.result ≤ c.used-top.result = let args = c.args in
+    within args.words.now args.tally.now.counts args.tally.now.closed args.tally.now.opened args.command c.if-opened-ge-MACROS.false _ c.used-top.ensures _
+    c.start-end.ensures in
     (c.requires, omega (arith, ends_within), omega arith)

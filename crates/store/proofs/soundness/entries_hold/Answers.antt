@@ -19,7 +19,7 @@ loop-i-init c =
     let walked = walk_start args.words.now args.start args.size _ c.requires.0 c.end_of-end.ensures in
     record {
       walk = record { whole = c.requires.0; inside = omega arith };
-      held = ap (λ es. entries_by args.closed args.m es) (sym walked);
+      held = ap (λ es. entries_by args.tally.now.closed args.m es) (sym walked);
     }
 
 pub returns-then-not-entry_holds : goal.returns-then-not-entry_holds
@@ -31,7 +31,7 @@ returns-then-not-entry_holds c =
     let at = c.loop-i in
     let judged = c.entry_holds in
     let fails = sym judged.ensures ∙ not-true judged.result (ap not c.if-not-entry_holds.true) in
-    sym (all_fail (entry_holds args.closed args.m) _ _ _ read fails) ∙ at.invariant.held
+    sym (all_fail (entry_holds args.tally.now.closed args.m) _ _ _ read fails) ∙ at.invariant.held
 
 pub loop-i-preserved : goal.loop-i-preserved
 loop-i-preserved c =
@@ -44,7 +44,7 @@ loop-i-preserved c =
     let holds = sym judged.ensures ∙ not-false judged.result (ap not c.if-not-entry_holds.false) in
     record {
       walk = at.invariant.walk;
-      held = sym (all_on (entry_holds args.closed args.m) _ _ _ read holds) ∙ at.invariant.held;
+      held = sym (all_on (entry_holds args.tally.now.closed args.m) _ _ _ read holds) ∙ at.invariant.held;
     }
 
 pub returns : goal.returns
@@ -52,4 +52,4 @@ returns c =
     let args = c.args in
     let at = c.loop-i in
     let none = walk_end args.words.now _ at.i c.loop-i-test.false in
-    sym (all_end (entry_holds args.closed args.m) _ none) ∙ at.invariant.held
+    sym (all_end (entry_holds args.tally.now.closed args.m) _ none) ∙ at.invariant.held

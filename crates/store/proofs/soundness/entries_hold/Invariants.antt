@@ -15,4 +15,4 @@ pub record Held (words : List ℕ) (es : List Command) (m : ℕ) (closed : List 
   pub held : entries_by closed m (between words i (end - i)) ≡ entries_by closed m es
 
 abbrev pub invariant-loop-i : goal.invariant-loop-i
-invariant-loop-i l = Held l.words (between l.words l.start l.size) l.m l.closed l.end l.i
+invariant-loop-i l = Held l.words (between l.words l.start l.size) l.m l.tally.closed l.end l.i

@@ -17,17 +17,17 @@ use mathlib.Core.Bool.{not}
 use Rattle.store.proofs.soundness.holds.Goals as goal
 
 pub returns-then-used-gt-ENTRIES : goal.returns-then-used-gt-ENTRIES
-returns-then-used-gt-ENTRIES c = sound_full (store_of c.args.words.now c.args.tally) c.args.used c.requires.spans_value.1 c.if-used-gt-ENTRIES.true
+returns-then-used-gt-ENTRIES c = sound_full (store_of c.args.words.now c.args.tally.now) c.args.used c.requires.spans_value.1 c.if-used-gt-ENTRIES.true
 
 pub loop-m-init : goal.loop-m-init
 unfolding start_of
 loop-m-init c =
     let args = c.args in
-    let s = store_of args.words.now args.tally in
+    let s = store_of args.words.now args.tally.now in
     record {
       whole = c.requires.words_len;
       marks = search rules;
-      tells = all_told s args.tally.spans c.requires.spans_value.0;
+      tells = all_told s args.tally.now.spans c.requires.spans_value.0;
       within = omega arith;
       small = omega arith;
       starts = refl;
@@ -36,29 +36,29 @@ loop-m-init c =
 
 pub returns-then-not-macro_holds : goal.returns-then-not-macro_holds
 returns-then-not-macro_holds c =
-    let judged : let args = c.args in c.macro_holds.result ≡ macro_holds (store_of args.words.now args.tally) c.loop-m.m = let args = c.args in
+    let judged : let args = c.args in c.macro_holds.result ≡ macro_holds (store_of args.words.now args.tally.now) c.loop-m.m = let args = c.args in
     let at = c.loop-m in
-    let size = c.size_of-size in
+    let size = c.size-size in
     let told = at.invariant.tells at.m (omega arith) in
-    macro_told args.words.now args.tally at.m at.start size.result _ told at.invariant.starts size.ensures.0
+    macro_told args.words.now args.tally.now at.m at.start size.result _ told at.invariant.starts size.ensures.0
     c.macro_holds.ensures in
     let args = c.args in
     let at = c.loop-m in
     let fails = sym judged ∙ not-true c.macro_holds.result (ap not c.if-not-macro_holds.true) in
-    sound_fails (store_of args.words.now args.tally) at.m (omega arith) fails
+    sound_fails (store_of args.words.now args.tally.now) at.m (omega arith) fails
 
 pub loop-m-preserved : goal.loop-m-preserved
 loop-m-preserved c =
-    let judged : let args = c.args in c.macro_holds.result ≡ macro_holds (store_of args.words.now args.tally) c.loop-m.m = let args = c.args in
+    let judged : let args = c.args in c.macro_holds.result ≡ macro_holds (store_of args.words.now args.tally.now) c.loop-m.m = let args = c.args in
     let at = c.loop-m in
-    let size = c.size_of-size in
+    let size = c.size-size in
     let told = at.invariant.tells at.m (omega arith) in
-    macro_told args.words.now args.tally at.m at.start size.result _ told at.invariant.starts size.ensures.0
+    macro_told args.words.now args.tally.now at.m at.start size.result _ told at.invariant.starts size.ensures.0
     c.macro_holds.ensures in
     let args = c.args in
-    let tally = args.tally in
+    let tally = args.tally.now in
     let at = c.loop-m in
-    let size = c.size_of-size in
+    let size = c.size-size in
     let holds = sym judged ∙ not-false c.macro_holds.result (ap not c.if-not-macro_holds.false) in
     record {
       whole = at.invariant.whole;
@@ -73,10 +73,10 @@ loop-m-preserved c =
 pub returns : goal.returns
 returns c =
     let args = c.args in
-    let s = store_of args.words.now args.tally in
+    let s = store_of args.words.now args.tally.now in
     let at = c.loop-m in
     let end : at.m ≡ 8 = omega arith in
     let all : all_below 8 (macro_holds s) ≡ true = rw end at at.invariant.held in
-    let told = running_told s args.tally.spans _ at.invariant.marks at.invariant.tells all c.running_holds.ensures in
+    let told = running_told s args.tally.now.spans _ at.invariant.marks at.invariant.tells all c.running_holds.ensures in
     let fits = c.if-used-gt-ENTRIES.false in
     sound_by_running s args.used _ c.requires.spans_value.1 fits all told

@@ -30,7 +30,7 @@ pub returns : goal.returns
 returns t c =
     let n = c.args.n in
     let below = c.spans_below-below in
-    let size = c.size_of-size in
+    let size = c.size-size in
     measured_more (store_of c.args.words.now c.args.tally) n (n - 1) size.result c.span_by.result (below.result)
     c.requires.1 refl c.if-n-eq0.false (below.ensures) size.ensures.0
     c.span_by.ensures

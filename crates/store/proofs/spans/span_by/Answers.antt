@@ -12,7 +12,7 @@ loop-i-init c =
     let walked = walk_start args.words.now args.start args.size _ c.requires.0 c.end_of-end.ensures in
     record {
       walk = record { whole = c.requires.0; inside = omega arith };
-      summed = rw c.no_span-sum.ensures (sum_start args.closed args.table args.m _ _ walked);
+      summed = rw c.no_span-sum.ensures (sum_start args.tally.now.closed args.tally.now.spans args.m _ _ walked);
     }
 
 pub loop-i-preserved : goal.loop-i-preserved
@@ -28,7 +28,7 @@ loop-i-preserved c =
             summed =
                 rw (w.sum-is, w.count-is)
                 (at.invariant.summed
-                ∙ sum_counted args.closed args.table args.m at.sum at.count _ _ _ _ next beat w.together-count.ensures);
+                ∙ sum_counted args.tally.now.closed args.tally.now.spans args.m at.sum at.count _ _ _ _ next beat w.together-count.ensures);
           }
       | in-Wait w ↦
           let beat = sym w.in-Wait.is ∙ c.beat_in.ensures in
@@ -37,7 +37,7 @@ loop-i-preserved c =
             summed =
                 rw (w.sum-is, w.count-is)
                 (at.invariant.summed
-                ∙ sum_joined args.closed args.table args.m at.sum _ _ _ at.count _ _ _ _ next beat
+                ∙ sum_joined args.tally.now.closed args.tally.now.spans args.m at.sum _ _ _ at.count _ _ _ _ next beat
                 w.wait_span.ensures w.with_entries.ensures w.joined-sum.ensures);
           }
       | in-Run w ↦
@@ -47,7 +47,7 @@ loop-i-preserved c =
             summed =
                 rw (w.sum-is, w.count-is)
                 (at.invariant.summed
-                ∙ sum_joined args.closed args.table args.m at.sum _ _ _ at.count _ _ _ _ next beat
+                ∙ sum_joined args.tally.now.closed args.tally.now.spans args.m at.sum _ _ _ at.count _ _ _ _ next beat
                 w.run_span.ensures w.with_entries-in-Run.ensures w.joined-sum-in-Run.ensures);
           }
     ]
@@ -57,4 +57,4 @@ returns c =
     let args = c.args in
     let at = c.loop-i in
     let none = walk_end args.words.now _ at.i c.loop-i-test.false in
-    c.with_entries-2.ensures ∙ sym (at.invariant.summed ∙ sum_end args.closed args.table args.m _ _ none)
+    c.with_entries-2.ensures ∙ sym (at.invariant.summed ∙ sum_end args.tally.now.closed args.tally.now.spans args.m _ _ none)

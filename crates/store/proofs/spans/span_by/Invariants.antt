@@ -16,4 +16,4 @@ pub record Summed (words : List ℕ) (es : List Command) (m : ℕ) (closed : Lis
   pub summed : spans_from closed table m no_span es ≡ spans_from closed table m (behind sum count) (between words i (end - i))
 
 abbrev pub invariant-loop-i : goal.invariant-loop-i
-invariant-loop-i l = Summed l.words (between l.words l.start l.size) l.m l.closed l.table l.end l.count l.i l.sum
+invariant-loop-i l = Summed l.words (between l.words l.start l.size) l.m l.tally.closed l.tally.spans l.end l.count l.i l.sum

@@ -23,12 +23,12 @@ returns-then-lacks_open c =
     let From : ℕ → Type 0 = λ n. let flag = c.args.command.flag in
     let role = c.role_of-role.result in
     let self = c.args.self in
-    let span = c.span_at-span.result in
+    let span = c.span-span.result in
     tally_code self c.args.command
     ≡ first_of
     (drop n
-    (rows_for flag role self.opened self.closed c.count_at-count.result (length_of span) span.most (used_by self) self.running)) in
-    let from_start : From 0 = rw (← c.role_of-role.ensures, ← c.count_at-count.ensures, ← c.span_at-span.ensures) in
+    (rows_for flag role self.opened self.closed c.count-count.result (length_of span) span.most (used_by self) self.running)) in
+    let from_start : From 0 = rw (← c.role_of-role.ensures, ← c.count-count.ensures, ← c.span-span.ensures) in
     sym (from_start ∙ rw (← c.lacks_open.ensures, c.if-lacks_open.true))
 
 pub returns-then-opens_another : goal.returns-then-opens_another
@@ -37,12 +37,12 @@ returns-then-opens_another c =
     let From : ℕ → Type 0 = λ n. let flag = c.args.command.flag in
     let role = c.role_of-role.result in
     let self = c.args.self in
-    let span = c.span_at-span.result in
+    let span = c.span-span.result in
     tally_code self c.args.command
     ≡ first_of
     (drop n
-    (rows_for flag role self.opened self.closed c.count_at-count.result (length_of span) span.most (used_by self) self.running)) in
-    let from_start : From 0 = rw (← c.role_of-role.ensures, ← c.count_at-count.ensures, ← c.span_at-span.ensures) in
+    (rows_for flag role self.opened self.closed c.count-count.result (length_of span) span.most (used_by self) self.running)) in
+    let from_start : From 0 = rw (← c.role_of-role.ensures, ← c.count-count.ensures, ← c.span-span.ensures) in
     let past_11 : From 1 = from_start ∙ rw (← c.lacks_open.ensures, c.if-lacks_open.false) in
     sym (past_11 ∙ rw (← c.opens_another.ensures, c.if-opens_another.true))
 
@@ -52,12 +52,12 @@ returns-then-opens_closed c =
     let From : ℕ → Type 0 = λ n. let flag = c.args.command.flag in
     let role = c.role_of-role.result in
     let self = c.args.self in
-    let span = c.span_at-span.result in
+    let span = c.span-span.result in
     tally_code self c.args.command
     ≡ first_of
     (drop n
-    (rows_for flag role self.opened self.closed c.count_at-count.result (length_of span) span.most (used_by self) self.running)) in
-    let from_start : From 0 = rw (← c.role_of-role.ensures, ← c.count_at-count.ensures, ← c.span_at-span.ensures) in
+    (rows_for flag role self.opened self.closed c.count-count.result (length_of span) span.most (used_by self) self.running)) in
+    let from_start : From 0 = rw (← c.role_of-role.ensures, ← c.count-count.ensures, ← c.span-span.ensures) in
     let past_11 : From 1 = from_start ∙ rw (← c.lacks_open.ensures, c.if-lacks_open.false) in
     let past_12 : From 2 = past_11 ∙ rw (← c.opens_another.ensures, c.if-opens_another.false) in
     sym (past_12 ∙ rw (← c.opens_closed.ensures, c.if-opens_closed.true))
@@ -68,12 +68,12 @@ returns-then-closes_empty c =
     let From : ℕ → Type 0 = λ n. let flag = c.args.command.flag in
     let role = c.role_of-role.result in
     let self = c.args.self in
-    let span = c.span_at-span.result in
+    let span = c.span-span.result in
     tally_code self c.args.command
     ≡ first_of
     (drop n
-    (rows_for flag role self.opened self.closed c.count_at-count.result (length_of span) span.most (used_by self) self.running)) in
-    let from_start : From 0 = rw (← c.role_of-role.ensures, ← c.count_at-count.ensures, ← c.span_at-span.ensures) in
+    (rows_for flag role self.opened self.closed c.count-count.result (length_of span) span.most (used_by self) self.running)) in
+    let from_start : From 0 = rw (← c.role_of-role.ensures, ← c.count-count.ensures, ← c.span-span.ensures) in
     let past_11 : From 1 = from_start ∙ rw (← c.lacks_open.ensures, c.if-lacks_open.false) in
     let past_12 : From 2 = past_11 ∙ rw (← c.opens_another.ensures, c.if-opens_another.false) in
     let past_13 : From 3 = past_12 ∙ rw (← c.opens_closed.ensures, c.if-opens_closed.false) in
@@ -85,12 +85,12 @@ returns-then-closes_too_long c =
     let From : ℕ → Type 0 = λ n. let flag = c.args.command.flag in
     let role = c.role_of-role.result in
     let self = c.args.self in
-    let span = c.span_at-span.result in
+    let span = c.span-span.result in
     tally_code self c.args.command
     ≡ first_of
     (drop n
-    (rows_for flag role self.opened self.closed c.count_at-count.result (length_of span) span.most (used_by self) self.running)) in
-    let from_start : From 0 = rw (← c.role_of-role.ensures, ← c.count_at-count.ensures, ← c.span_at-span.ensures) in
+    (rows_for flag role self.opened self.closed c.count-count.result (length_of span) span.most (used_by self) self.running)) in
+    let from_start : From 0 = rw (← c.role_of-role.ensures, ← c.count-count.ensures, ← c.span-span.ensures) in
     let past_11 : From 1 = from_start ∙ rw (← c.lacks_open.ensures, c.if-lacks_open.false) in
     let past_12 : From 2 = past_11 ∙ rw (← c.opens_another.ensures, c.if-opens_another.false) in
     let past_13 : From 3 = past_12 ∙ rw (← c.opens_closed.ensures, c.if-opens_closed.false) in
@@ -103,12 +103,12 @@ returns-then-closes_too_many c =
     let From : ℕ → Type 0 = λ n. let flag = c.args.command.flag in
     let role = c.role_of-role.result in
     let self = c.args.self in
-    let span = c.span_at-span.result in
+    let span = c.span-span.result in
     tally_code self c.args.command
     ≡ first_of
     (drop n
-    (rows_for flag role self.opened self.closed c.count_at-count.result (length_of span) span.most (used_by self) self.running)) in
-    let from_start : From 0 = rw (← c.role_of-role.ensures, ← c.count_at-count.ensures, ← c.span_at-span.ensures) in
+    (rows_for flag role self.opened self.closed c.count-count.result (length_of span) span.most (used_by self) self.running)) in
+    let from_start : From 0 = rw (← c.role_of-role.ensures, ← c.count-count.ensures, ← c.span-span.ensures) in
     let past_11 : From 1 = from_start ∙ rw (← c.lacks_open.ensures, c.if-lacks_open.false) in
     let past_12 : From 2 = past_11 ∙ rw (← c.opens_another.ensures, c.if-opens_another.false) in
     let past_13 : From 3 = past_12 ∙ rw (← c.opens_closed.ensures, c.if-opens_closed.false) in
@@ -122,16 +122,16 @@ returns c =
     let From : ℕ → Type 0 = λ n. let flag = c.args.command.flag in
     let role = c.role_of-role.result in
     let self = c.args.self in
-    let span = c.span_at-span.result in
+    let span = c.span-span.result in
     tally_code self c.args.command
     ≡ first_of
     (drop n
-    (rows_for flag role self.opened self.closed c.count_at-count.result (length_of span) span.most (used_by self) self.running)) in
-    let from_start : From 0 = rw (← c.role_of-role.ensures, ← c.count_at-count.ensures, ← c.span_at-span.ensures) in
+    (rows_for flag role self.opened self.closed c.count-count.result (length_of span) span.most (used_by self) self.running)) in
+    let from_start : From 0 = rw (← c.role_of-role.ensures, ← c.count-count.ensures, ← c.span-span.ensures) in
     let past_11 : From 1 = from_start ∙ rw (← c.lacks_open.ensures, c.if-lacks_open.false) in
     let past_12 : From 2 = past_11 ∙ rw (← c.opens_another.ensures, c.if-opens_another.false) in
     let past_13 : From 3 = past_12 ∙ rw (← c.opens_closed.ensures, c.if-opens_closed.false) in
     let past_14 : From 4 = past_13 ∙ rw (← c.closes_empty.ensures, c.if-closes_empty.false) in
     let past_15 : From 5 = past_14 ∙ rw (← c.seconds_of.ensures, ← c.closes_too_long.ensures, c.if-closes_too_long.false) in
     let past_25 : From 6 = past_15 ∙ rw (← c.closes_too_many.ensures, c.if-closes_too_many.false) in
-    c.permits_entry.ensures ∙ rw c.used.ensures (sym past_25)
+    c.permits_entry.ensures ∙ sym past_25
