@@ -18,7 +18,7 @@ pub struct Series {
     pub count: u16,
 }
 
-// A time that never counts down.
+// A time that never counts down. It is the command's own number, on the wire and in the status frame, so that a time is no enum.
 const FOR_EVER: u16 = 65535;
 
 // The time after a second.

@@ -78,6 +78,7 @@ impl From<NoRoom> for Refusal {
 /// The bytes of a frame.
 pub const SIZE: usize = 32;
 
+// `running` and `opened` are bytes with 255 for none, and no `Option`: `frame_at` says what bytes say that break the rules, and `obeys` is asked of any.
 // How many macros there are, the number that stands for none, and the longest a macro runs, in seconds.
 const MACROS: u8 = 8;
 
