@@ -1,4 +1,4 @@
-// What the programs say: the kit's own list; a report as text, that is its header and a line for each record; and the line of a refusal.
+//! What the programs say: the kit's own list; a report as text, that is its header and a line for each record; and the line of a refusal.
 #![tactic(auto)]
 
 ghost use Rattle.std.specs.Prelude.{◌+◌, ◌/◌, ◌≤◌, ◌<◌, ◌≡◌, length, leb};
@@ -19,15 +19,15 @@ const HEADER: usize = 21;
 
 const LINE: usize = 36;
 
-// The room that the text of the longest report needs. A refusal's line needs less.
+/// The room, in bytes, that the text of the longest report needs. A refusal's line needs less.
 pub const TEXT: usize = HEADER + report::RECORDS * LINE;
 
 const BLANK: u8 = b' ';
 
 const LINE_FEED: u8 = b'\n';
 
-// What a line says of a record, in the order of the columns. Public, since the meaning of a line names it.
-#[derive(Clone, Copy)]
+/// What a line says of a record, in the order of the columns. Public, since the meaning of a line names it.
+#[derive(Clone, Copy, Debug, PartialEq, Eq)]
 pub struct Fields {
     sender: u8,
     number: u32,
@@ -36,7 +36,7 @@ pub struct Fields {
     value: u32,
 }
 
-// The kit's own list: power on; region 0 0; algorithm 0; auto flush 1.
+/// The kit's own list: power on; region 0 0; algorithm 0; auto flush 1.
 pub fn kit_list() -> [u8; 48]
     ensures { result ≡ kit_bytes }
 {

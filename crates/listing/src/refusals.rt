@@ -1,4 +1,4 @@
-// The line that says why something was refused, and where: `refused 20`, `refused 30 line 4`, `refused 8 line 4 par 1 val 2 from 0 to 1`.
+//! The line that says why something was refused, and where: `refused 20`, `refused 30 line 4`, `refused 8 line 4 par 1 val 2 from 0 to 1`.
 ghost use Rattle.std.specs.Prelude.{◌+◌, ◌≤◌, ◌≡◌, length};
 ghost use Rattle.std.proofs.lemmas.List.Edits.{sets};
 ghost use Rattle.words.specs.BigEndian.{written};
@@ -16,15 +16,15 @@ const LONGEST: usize = 81;
 // The code that says what was wrong with a number: it is out of range.
 const OUT_OF_RANGE: u8 = 8;
 
-// What a finding's number counts: the lines of a text, or the commands of a raw list.
-#[derive(Clone, Copy)]
+/// What a finding's number counts: the lines of a text, or the commands of a raw list.
+#[derive(Clone, Copy, Debug, PartialEq, Eq)]
 pub enum Numbered {
     Lines,
     Commands,
 }
 
-// What is to be written: how many bytes from the front of a room, and whether they are a refusal's line.
-#[derive(Clone, Copy)]
+/// What is to be written: how many bytes from the front of a room, and whether they are a refusal's line.
+#[derive(Clone, Copy, Debug, PartialEq, Eq)]
 pub struct Output {
     pub bytes: usize,
     pub refused: bool,
@@ -117,8 +117,8 @@ pub fn put_refusal(room: &mut [u8], numbered: Numbered, found: Finding) -> Resul
     Ok(bytes)
 }
 
-// What is to be written of a room that a list or a text was to be made in, by what was found: its first so many bytes; or, where something was found,
-// the line that says so, which is put there instead.
+/// What is to be written of a room that a list or a text was to be made in, by what was found: its first so many bytes; or, where something was found,
+/// the line that says so, which is put there instead.
 pub fn put_outcome(room: &mut [u8], numbered: Numbered, found: Finding, bytes: usize) -> Output
     ensures value { result ≡ output_for numbered (outcome found bytes) room.old }
     ensures room_after { room.new ≡ room_for numbered (outcome found bytes) room.old }

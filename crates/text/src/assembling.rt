@@ -1,4 +1,4 @@
-// The assembler, in one pass: all lines are judged and their bytes gathered, and only then is the room touched.
+//! The assembler, in one pass: all lines are judged and their bytes gathered, and only then is the room touched.
 ghost use Rattle.std.specs.Prelude.{◌≡◌, length};
 ghost use Rattle.words.specs.Text.{stored_at};
 ghost use Rattle.wire.specs.Write.{command_bytes, list_bytes};

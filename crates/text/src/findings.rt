@@ -1,4 +1,4 @@
-// What is found wrong with a line, a command to be listed, or a whole text or list, and the answers that carry it.
+//! What is found wrong with a line, a command to be listed, or a whole text or list, and the answers that carry it.
 ghost use Rattle.std.specs.Prelude.{◌≡◌, Err};
 ghost use Rattle.wire.specs.Judge.{plain};
 ghost use Rattle.text.specs.declared.findings.Fault.TheVariants.{Wire};

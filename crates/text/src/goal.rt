@@ -1,4 +1,4 @@
-// Goals: from text to quarters and the bits of the single, and back.
+//! Goals: from text to quarters and the bits of the single, and back.
 ghost use Rattle.std.specs.Prelude.{◌≤◌, ◌≡◌};
 ghost use Rattle.text.specs.Goal.{goal_bits, quarters_in};
 ghost use Rattle.text.specs.Line.{goal_of};
@@ -26,7 +26,7 @@ fn goal_bits(quarters: u32) -> u32
     f32::to_bits(whole / four)
 }
 
-// A goal, as the bits of its single.
+/// A goal, as the bits of its single.
 pub fn goal_of(part: &[u8]) -> Option<u32>
     ensures { result ≡ goal_of part.now }
 {
@@ -45,7 +45,7 @@ fn guess_of(bits: u32) -> u32
     (bits % FIELD + FIELD) >> (QUARTERS_FIELD - bits / FIELD)
 }
 
-// The quarters that have these bits.
+/// The quarters that have these bits.
 pub fn quarters_in(bits: u32) -> Option<u32>
     ensures { result ≡ quarters_in bits }
 {

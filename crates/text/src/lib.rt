@@ -1,4 +1,4 @@
-// What a pupil types: lines with names, numbers and goals; whole texts to raw lists and back; the line that a record's number names.
+//! What a pupil types: lines with names, numbers and goals; whole texts to raw lists and back; the line that a record's number names.
 #![tactic(auto)]
 
 mod assembling;

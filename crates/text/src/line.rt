@@ -1,4 +1,4 @@
-// One line: codes 30, 32, 31, then 8 to 10.
+//! One line: codes 30, 32, 31, then 8 to 10.
 ghost use Rattle.std.specs.Prelude.{◌≡◌};
 ghost use Rattle.text.specs.Line.{first_of, second_of, line_of, answer_command, answer_line};
 ghost use Rattle.text.specs.Split.{space};

@@ -1,11 +1,11 @@
-// The names of the table.
+//! The names of the table.
 ghost use Rattle.std.specs.Prelude.{◌≡◌};
 ghost use Rattle.text.specs.Names.{macro_named, form_named};
 
 use super::same::same;
 use wire::Form;
 
-// The form that has this name.
+/// The form that has this name.
 pub fn form_named(name: &[u8]) -> Option<Form>
     ensures { result ≡ form_named name.now }
 {

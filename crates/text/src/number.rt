@@ -1,4 +1,4 @@
-// Numbers as digits: a whole number, and a goal in quarters.
+//! Numbers as digits: a whole number, and a goal in quarters.
 ghost use Rattle.std.specs.Prelude.{◌≡◌};
 ghost use Rattle.text.specs.Number.{whole_of, fraction_of, quarters_of};
 ghost use Rattle.text.specs.Steps.{Counted};
@@ -40,10 +40,7 @@ fn digits_of(part: &[u8]) -> Digits
             return Digits { value, count };
         }
         let b = wide(part[count]);
-        if b < ZERO {
-            return Digits { value, count };
-        }
-        if NINE < b {
+        if b < ZERO || NINE < b {
             return Digits { value, count };
         }
         value = value * TEN + (b - ZERO);
@@ -52,7 +49,7 @@ fn digits_of(part: &[u8]) -> Digits
     Digits { value, count }
 }
 
-// A whole number.
+/// A whole number: one to five digits and nothing else.
 pub fn whole_of(part: &[u8]) -> Option<u32>
     ensures { result ≡ whole_of part.now }
 {
@@ -85,7 +82,7 @@ fn fraction_of(part: &[u8]) -> Option<u32>
     None
 }
 
-// A goal, in quarters.
+/// A goal, in quarters: a whole number, alone or ending in .25, .5 or .75.
 pub fn quarters_of(part: &[u8]) -> Option<u32>
     ensures { result ≡ quarters_of part.now }
 {

@@ -1,4 +1,4 @@
-// The lister: a raw list command by command, each as a line of text in a buffer; only when all of them can be said is the room touched.
+//! The lister: a raw list command by command, each as a line of text in a buffer; only when all of them can be said is the room touched.
 ghost use Rattle.std.specs.Prelude.{◌+◌, ◌≤◌, ◌≡◌, ◌∷◌, length};
 ghost use Rattle.std.proofs.lemmas.List.Edits.{sets};
 ghost use Rattle.words.specs.Text.{decimal, place_after, stored_at};
@@ -64,6 +64,7 @@ fn put_flag(buffer: &mut [u8], at: usize, flag: bool) -> usize
 }
 
 // The name of a command.
+#[tactic(auto, unfolding(wire::specs::Table::name_of))]
 fn put_name(buffer: &mut [u8], at: usize, form: Form) -> usize
     ensures value { result ≡ place_after (name_of form) at buffer.old }
     ensures buffer_after { buffer.new ≡ stored_at (name_of form) at buffer.old }
@@ -137,8 +138,7 @@ fn put_arguments(buffer: &mut [u8], at: usize, layout: Layout, first: u32, secon
 {
     match layout {
         Layout::Bare => at,
-        Layout::Byte => put_number(buffer, at, first),
-        Layout::Half => put_number(buffer, at, first),
+        Layout::Byte | Layout::Half => put_number(buffer, at, first),
         Layout::Halves => {
             let end = put_number(buffer, at, first);
             put_number(buffer, end, second)
@@ -156,15 +156,12 @@ fn put_line(buffer: &mut [u8], at: usize, command: Command) -> usize
     ensures value { result ≡ at + length (ended_line command) }
     ensures buffer_after { buffer.new ≡ sets buffer.old at (ended_line command) }
 {
-    let kind = command.kind;
-    let parts = wire::parts_of(kind);
-    let form = parts.form;
-    let row = wire::row_of(form);
-    let layout = row.layout;
-    let start = put_flag(buffer, at, command.flag);
-    let named = put_name(buffer, start, form);
-    let end = put_arguments(buffer, named, layout, parts.first, parts.second);
-    words::put_at(buffer, end, b"\n")
+    let parts = wire::parts_of(command.kind);
+    let row = wire::row_of(parts.form);
+    let at = put_flag(buffer, at, command.flag);
+    let at = put_name(buffer, at, parts.form);
+    let at = put_arguments(buffer, at, row.layout, parts.first, parts.second);
+    words::put_at(buffer, at, b"\n")
 }
 
 // A list judged, and its text put at the front of the buffer.

@@ -1,34 +1,33 @@
-// A line or a text taken apart at a mark.
+//! A line or a text taken apart at a mark.
 ghost use Rattle.std.specs.Prelude.{◌+◌, ◌≡◌, drop};
 ghost use Rattle.text.specs.Steps.{run_of, front_of};
 
+/// What ends a line.
 pub const LINE_FEED: u8 = b'\n';
 
+/// What stands between the words of a line.
 pub const SPACE: u8 = b' ';
 
-// How many bytes stand before the first mark.
+/// How many bytes stand before the first mark.
 pub fn run_of(s: &[u8], mark: u8) -> usize
     ensures { result ≡ run_of mark s.now }
 {
-    let mut i = 0;
-    while i < s.len() {
-        if s[i] == mark {
+    for (i, &b) in s.iter().enumerate() {
+        if b == mark {
             return i;
         }
-        i += 1;
     }
-    i
+    s.len()
 }
 
-// The part before the first mark.
+/// The part before the first mark.
 pub fn front<'a>(s: &'a [u8], mark: u8) -> &'a [u8]
     ensures { result.now ≡ front_of mark s.now }
 {
-    let end = run_of(s, mark);
-    &s[..end]
+    &s[..run_of(s, mark)]
 }
 
-// The part behind a mark at this place; nothing where the text ends before it.
+/// The part behind a mark at this place; nothing where the text ends before it.
 pub fn behind<'a>(s: &'a [u8], at: usize) -> &'a [u8]
     ensures { result.now ≡ drop (at + 1) s.now }
 {

@@ -1,35 +1,30 @@
--- `line_shown` meets its contract. The loop's invariant: so many lines were passed, and the next begins here. Each turn passes one byte at least, so
+-- `line_shown` meets its contract. The invariant: so many lines were passed, and the next begins here.
 -- the measure is the number of bytes left, whatever the number is.
 use Prim.Native.Nat.{◌+◌, ◌-◌, ◌≤◌}
 use mathlib.Core.Path.{◌≡◌, refl, ap, ◌∙◌}
 use native.Mathlib.Omega.{arith}
 use lib.ListN.{length, take, drop}
 use Rattle.text.proofs.ShownLine.{reached_none, none_long, none_zero, none_left, run_fits, found, goes_on}
+use Rattle.text.proofs.showing.line_shown.Goals.{then-text-gt-LONGEST-via-then-text-gt-LONGEST, then-text-gt-LONGEST-via-else-text-gt-LONGEST+then-number-eq0}
 use Rattle.text.proofs.showing.line_shown.Goals as goal
 
 pub returns-then-text-gt-LONGEST-clause-result_value : goal.returns-then-text-gt-LONGEST-clause-result_value
 returns-then-text-gt-LONGEST-clause-result_value c =
     let start = c.args in
-    let none = none_long start.text.now start.number c.if-text-gt-LONGEST.true in
-    none.0
+    elim c.then-text-gt-LONGEST.branch [
+      | then-text-gt-LONGEST-via-then-text-gt-LONGEST w ↦ (none_long start.text.now start.number w.if-text-gt-LONGEST.true).0
+      | then-text-gt-LONGEST-via-else-text-gt-LONGEST+then-number-eq0 w ↦ (none_zero start.text.now start.number w.if-number-eq0.true).0
+    ]
 
 pub returns-then-text-gt-LONGEST-clause-placed : goal.returns-then-text-gt-LONGEST-clause-placed
 returns-then-text-gt-LONGEST-clause-placed c =
     let start = c.args in
-    let none = none_long start.text.now start.number c.if-text-gt-LONGEST.true in
-    record { block = refl; start = omega (arith, none.1) }
-
-pub returns-then-number-eq0-clause-result_value : goal.returns-then-number-eq0-clause-result_value
-returns-then-number-eq0-clause-result_value c =
-    let start = c.args in
-    let none = none_zero start.text.now start.number c.if-number-eq0.true in
-    none.0
-
-pub returns-then-number-eq0-clause-placed : goal.returns-then-number-eq0-clause-placed
-returns-then-number-eq0-clause-placed c =
-    let start = c.args in
-    let none = none_zero start.text.now start.number c.if-number-eq0.true in
-    record { block = refl; start = omega (arith, none.1) }
+    elim c.then-text-gt-LONGEST.branch [
+      | then-text-gt-LONGEST-via-then-text-gt-LONGEST w ↦
+          record { block = refl; start = omega (arith, (none_long start.text.now start.number w.if-text-gt-LONGEST.true).1) }
+      | then-text-gt-LONGEST-via-else-text-gt-LONGEST+then-number-eq0 w ↦
+          record { block = refl; start = omega (arith, (none_zero start.text.now start.number w.if-number-eq0.true).1) }
+    ]
 
 pub loop-at-init : goal.loop-at-init
 loop-at-init c = reached_none _ _ (omega arith)

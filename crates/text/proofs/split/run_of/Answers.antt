@@ -1,12 +1,13 @@
 -- `run_of` meets its contract.
+use native.Mathlib.Omega.{arith}
 use Rattle.text.proofs.Marks.{run_ends, run_goes, run_all}
 use Rattle.text.proofs.split.run_of.Goals as goal
 
-pub returns-then-s-i : goal.returns-then-s-i
-returns-then-s-i c = run_ends _ _ _ c.loop-i.invariant c.loop-i-test.true c.if-s-i.true
+pub returns-then-b-mark : goal.returns-then-b-mark
+returns-then-b-mark c = run_ends _ _ _ c.loop-i.invariant (omega arith) c.if-b-mark.true
 
 pub loop-i-preserved : goal.loop-i-preserved
-loop-i-preserved c = run_goes _ _ _ c.loop-i.invariant c.loop-i-test.true c.if-s-i.false
+loop-i-preserved c = run_goes _ _ _ c.loop-i.invariant (omega arith) c.if-b-mark.false
 
 pub returns : goal.returns
-returns c = run_all _ _ _ c.loop-i.invariant c.loop-i-test.false
+returns c = omega (arith, run_all _ _ _ c.loop-i.invariant (omega arith), c.loop-i.invariant.within)
