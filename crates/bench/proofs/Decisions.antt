@@ -18,7 +18,6 @@ use Rattle.wire.specs.declared.kinds.Parts.{Parts}
 use Rattle.wire.proofs.Answers.{refusal_code}
 use Rattle.wire.proofs.Parameters.{other_told}
 use Rattle.store.specs.declared.checks.Denial.{Denial}
-use Rattle.store.specs.declared.checks.Permit.{Permit}
 use Rattle.store.specs.declared.tally.Tally.{Tally}
 use Rattle.store.specs.Checks.{code_of, told_permit}
 use Rattle.store.specs.TallySteps.{tally_code}
@@ -59,11 +58,11 @@ module _ (power : Bool) (t : Tally) (c : Command) where
     unfolding tally_code
     by_tally = rw lit
 
-    pub denied : (d : Denial) → told_permit (Permit.Denied d) ≡ tally_code t c → none (plain (code_of d)) ≡ permitted_by power t c
+    pub denied : (d : Denial) → told_permit (Err d) ≡ tally_code t c → none (plain (code_of d)) ≡ permitted_by power t c
     unfolding permitted_by
     denied d e = denial_none c d ∙ ap (λ n. permitted_with n c) (e ∙ sym by_tally)
 
-    pub granted : told_permit Permit.Granted ≡ tally_code t c → answer_of (Ok c) ≡ permitted_by power t c
+    pub granted : told_permit (Ok tt) ≡ tally_code t c → answer_of (Ok c) ≡ permitted_by power t c
     unfolding permitted_by
     granted e = ap (λ n. permitted_with n c) (e ∙ sym by_tally)
 

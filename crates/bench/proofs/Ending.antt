@@ -13,26 +13,25 @@ use Rattle.report.specs.Record.{record_length}
 use Rattle.report.specs.Latest.{latest_of}
 use Rattle.report.proofs.LastRecords.{latest_on}
 use Rattle.housekeeping.specs.declared.Housekeeping.{Housekeeping}
-use Rattle.walk.specs.Walk.{rests}
+use Rattle.std.specs.Prelude.{Ok, Err}
 use Rattle.store.specs.Pool.{free_in}
 use Rattle.bench.specs.declared.Bench.{Bench}
 use Rattle.bench.specs.declared.Works.{Works}
-use Rattle.bench.specs.declared.Free.{Free}
 use Rattle.bench.specs.Status.{bench_sound, FreeTold, told_free, free_at, housekeeping_of, HousekeepingTold, housekeeping_at}
-use Rattle.bench.specs.Run.{run_list, noting, ended_as}
+use Rattle.bench.specs.Run.{run_rests, noting, ended_as}
 use Rattle.bench.specs.Steps.{bench_of, works_noting}
 use Rattle.bench.proofs.Listing.{records_long}
 
 -- A list with these numbers was carried out and left `works` and a pool, its records were put into a room with room for them, and what that says
 -- was noted.
-pub list_ended : (b : Bench) (numbers list : List ℕ) → length numbers ≡ length (rests list) → (works noted : Works) (pool room left : List ℕ) (count : ℕ)
-    → bench_of works pool ≡ (run_list b 2 numbers list).bench → left ≡ written (run_list b 2 numbers list).records room
-    → length (rests list) * record_length ≤ length room → count ≡ length (rests list) → noted ≡ works_noting works (latest_of left count)
-    → bench_of noted pool ≡ ended_as (run_list b 2 numbers list) (length (rests list))
-list_ended b numbers list even works noted pool room left count bench_is left_is fits count_is noted_is =
-    let records = (run_list b 2 numbers list).records in
-    let n = length (rests list) in
-    let long : length records ≡ record_length * n = records_long b 2 numbers (rests list) even in
+pub list_ended : (b : Bench) (numbers : List ℕ) (rs : List (List ℕ)) → length numbers ≡ length rs → (works noted : Works) (pool room left : List ℕ) (count : ℕ)
+    → bench_of works pool ≡ (run_rests b 2 numbers rs).bench → left ≡ written (run_rests b 2 numbers rs).records room
+    → length rs * record_length ≤ length room → count ≡ length rs → noted ≡ works_noting works (latest_of left count)
+    → bench_of noted pool ≡ ended_as (run_rests b 2 numbers rs) (length rs)
+list_ended b numbers rs even works noted pool room left count bench_is left_is fits count_is noted_is =
+    let records = (run_rests b 2 numbers rs).records in
+    let n = length rs in
+    let long : length records ≡ record_length * n = records_long b 2 numbers rs even in
     let stands = left_is ∙ with_room records room (omega arith) in
     let says : latest_of left count ≡ latest_of records n =
     ap₂ latest_of stands count_is ∙ latest_on records (drop (length records) room) n (omega arith) in
@@ -49,7 +48,7 @@ module _ (b : Bench) where
   abbrev shows : ℕ → Housekeeping
   shows free = record { received = b.latest.received; failed = b.latest.failed; code = b.latest.code; free = free }
 
-  pub housekeeping_unknown : told_free Free.Unsound ≡ free_at b → record { code = 27; shown = [] } ≡ housekeeping_at b
+  pub housekeeping_unknown : told_free (Err (record {})) ≡ free_at b → record { code = 27; shown = [] } ≡ housekeeping_at b
   unfolding free_at housekeeping_at
   housekeeping_unknown free = go (bench_sound b) (ap (λ (t : FreeTold). t.code) free)
     where
@@ -57,7 +56,7 @@ module _ (b : Bench) where
       go true e = absurd (omega arith)
       go false e = refl
 
-  pub housekeeping_known : (n : ℕ) → told_free (Free.Known n) ≡ free_at b → record { code = 0; shown = shows n ∷ [] } ≡ housekeeping_at b
+  pub housekeeping_known : (n : ℕ) → told_free (Ok n) ≡ free_at b → record { code = 0; shown = shows n ∷ [] } ≡ housekeeping_at b
   unfolding free_at housekeeping_at
   housekeeping_known n free = go (bench_sound b) (ap (λ (t : FreeTold). t.code) free) (ap (λ (t : FreeTold). t.free) free)
     where

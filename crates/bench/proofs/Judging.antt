@@ -2,7 +2,8 @@
 use Prim.Native.Nat.{ℕ}
 use mathlib.Core.Path.{◌≡◌, refl, sym, ap, ◌∙◌}
 use mathlib.Core.List.{List, [], ◌∷◌}
-use mathlib.Core.Bool.{Bool, true, false}
+use mathlib.Core.Bool.{Bool, true, false, ◌&&◌}
+use Rattle.std.specs.Prelude.{is_ok, Result, Ok, Err}
 use lib.ListN.{length, take}
 use lib.Seq.{take_at}
 use Rattle.wire.specs.declared.kinds.Kind.{Kind}
@@ -14,20 +15,20 @@ use Rattle.camera.specs.Series.{next_holds}
 use Rattle.camera.specs.Camera.{camera_second}
 use Rattle.store.specs.declared.Store.{Store}
 use Rattle.store.specs.declared.Step.{Step}
+use Rattle.store.specs.declared.Unsound.{Unsound}
 use Rattle.store.specs.declared.groups.Group.{Group}
 use Rattle.store.specs.declared.tally.Survey.{Survey}
 use Rattle.store.specs.Pool.{idle}
 use Rattle.store.specs.Effects.{store_with, group_of, kinds_in, next_group, after_second}
 use Rattle.store.specs.Sound.{store_sound}
-use Rattle.store.specs.TallySteps.{free_by, survey_of}
+use Rattle.store.specs.TallySteps.{tally_of, free_by, survey_of}
 use Rattle.store.specs.SecondSteps.{step_with, stepped_of}
 use Rattle.bench.specs.declared.Bench.{Bench}
-use Rattle.bench.specs.declared.Passed.{Passed}
 use Rattle.bench.specs.declared.Works.{Works}
 use Rattle.bench.specs.Status.{status_of, rules_hold, bench_sound, status_at, free_at}
 use Rattle.bench.specs.declared.Executed.{Executed}
-use Rattle.bench.specs.Second.{SecondTold, passed_of, codes_shown, handed_codes, second_at}
-use Rattle.bench.specs.Steps.{works_of, bench_of, surveyed, stayed_at, executed_with}
+use Rattle.bench.specs.Second.{stayed_at, codes_shown, handed_codes, second_at}
+use Rattle.bench.specs.Steps.{works_of, bench_of, executed_with}
 use Rattle.bench.proofs.Executing.{one_code}
 
 -- What is at work of a bench is, on the bench's own pool, that bench; so what is told of it is told of the bench.
@@ -54,64 +55,54 @@ module _ (b : Bench) where
   unfolding bench_sound
   by_store e = rw e
 
-  -- The survey of a bench, from that of its store.
-  module _ (survey : Survey) (is : survey ≡ survey_of b.store) where
-    pub surveyed_rules : rules_hold b ≡ true → survey ≡ surveyed b
-    surveyed_rules e = rw (is, by_store e)
+-- What a survey tells of the bench that is at work, with the rules outside the store.
+module _ (b : Bench) (works : Works) (own : works ≡ works_of b) (survey : Survey) (is : survey ≡ survey_of (bench_of works b.store.pool).store)
+    (rules : Bool) (hold : rules ≡ rules_hold (bench_of works b.store.pool)) where
+  found : survey ≡ survey_of b.store
+  found = is ∙ ap (λ (c : Bench). survey_of c.store) (own_bench b works own)
 
-    pub surveyed_no_rules : rules_hold b ≡ false → record { sound = false; tally = survey.tally } ≡ surveyed b
-    surveyed_no_rules e = rw (is, no_rules e)
+  pub tally_found : survey.tally ≡ tally_of b.store
+  tally_found = ap (λ (s : Survey). s.tally) found
 
--- The status of a sound bench is known; any other bench gets 27.
-pub known : (b : Bench) (f : Frame) → bench_sound b ≡ true → f ≡ status_of b → record { code = 0; shown = f ∷ [] } ≡ status_at b
-unfolding status_at
-known b f sound e = rw (sound, e)
+  pub judged_sound : (survey.sound && rules) ≡ bench_sound b
+  unfolding bench_sound
+  judged_sound = rw (hold ∙ ap rules_hold (own_bench b works own), ap (λ (s : Survey). s.sound) found) (and_turn (store_sound b.store) (rules_hold b))
+    where
+      and_turn : (s t : Bool) → (s && t) ≡ (t && s)
+      and_turn true true = refl
+      and_turn true false = refl
+      and_turn false true = refl
+      and_turn false false = refl
 
-pub unknown : (b : Bench) → bench_sound b ≡ false → record { code = 27; shown = [] } ≡ status_at b
-unfolding status_at
-unknown b unsound = rw unsound
+-- The status of a sound bench is known; any other bench gets 27. So are the free entries, by its tally.
+module _ (b : Bench) where
+  pub known : (f : Frame) → true ≡ bench_sound b → f ≡ status_of b → record { code = 0; shown = f ∷ [] } ≡ status_at b
+  unfolding status_at
+  known f sound e = rw (sym sound, e)
 
--- So are the free entries, by the tally that its survey finds.
-module _ (b : Bench) (survey : Survey) (is : survey ≡ surveyed b) where
-  pub free_known : {n : ℕ} → survey.sound ≡ true → n ≡ free_by survey.tally → record { code = 0; free = n } ≡ free_at b
+  pub unknown : false ≡ bench_sound b → record { code = 27; shown = [] } ≡ status_at b
+  unfolding status_at
+  unknown unsound = rw (sym unsound)
+
+  pub free_known : {n : ℕ} → true ≡ bench_sound b → n ≡ free_by (tally_of b.store) → record { code = 0; free = n } ≡ free_at b
   unfolding free_at
-  free_known sound e = rw (e, is, sym (ap (λ (s : Survey). s.sound) is) ∙ sound)
+  free_known sound e = rw (e, sym sound)
 
-  pub free_unknown : survey.sound ≡ false → record { code = 27; free = 0 } ≡ free_at b
+  pub free_unknown : false ≡ bench_sound b → record { code = 27; free = 0 } ≡ free_at b
   unfolding free_at
-  free_unknown unsound = rw (sym (ap (λ (s : Survey). s.sound) is) ∙ unsound)
+  free_unknown unsound = rw (sym unsound)
 
 -- A second of a bench that is not sound.
 pub no_second : (b : Bench) → bench_sound b ≡ false → stayed_at b ≡ second_at b
 unfolding second_at
 no_second b unsound = rw unsound
 
--- Nothing is handed over in it, and no code told.
-pub none_handed : (b : Bench) (group : Group) (codes : List ℕ) → group ≡ group_of [] → codes ≡ codes_shown []
-    → (record { told = plain 27; bench = b; handed = kinds_in group; codes = take group.count codes } ≡ stayed_at b)
-    × (group ≡ group_of [])
-    × (codes ≡ codes_shown [])
-none_handed b group codes none zeros = (rw none, none, zeros)
-
--- So what is told of such a second is told of it.
-pub stayed_told : (b : Bench) (r : Passed) → (passed_of r ≡ stayed_at b) × (r.group ≡ group_of []) × (r.codes ≡ codes_shown []) → stayed_at b ≡ second_at b
-    → (passed_of r ≡ second_at b) × ((r.group ≡ group_of (second_at b).handed) × (r.codes ≡ codes_shown (second_at b).codes))
-stayed_told b r stays same = (
-  stays.0 ∙ same,
-  (stays.1 ∙ ap (λ (t : SecondTold). group_of t.handed) same, stays.2 ∙ ap (λ (t : SecondTold). codes_shown t.codes) same),
-)
-
--- The camera of a second: each series first, then what was handed over.
-pub series_first : (camera stepped : Camera) (done : Executed) (group : Group) → stepped ≡ camera_second camera
-    → done ≡ executed_with stepped (kinds_in group) → done ≡ executed_with (camera_second camera) (kinds_in group)
-series_first camera stepped done group series executed = executed ∙ ap (λ (k : Camera). executed_with k (kinds_in group)) series
-
 -- A second of a store tells whether the store is sound.
-step_sound : (s : Store) (step : Step) → step ≡ stepped_of s → step.sound ≡ store_sound s
+step_sound : (s : Store) → is_ok (stepped_of s) ≡ store_sound s
 unfolding stepped_of
-step_sound s step e = ap (λ (r : Step). r.sound) e ∙ go (store_sound s) refl
+step_sound s = go (store_sound s) refl
   where
-    go : (sound : Bool) → store_sound s ≡ sound → (stepped_of s).sound ≡ store_sound s
+    go : (sound : Bool) → store_sound s ≡ sound → is_ok (stepped_of s) ≡ store_sound s
     go true is = rw is
     go false is = rw is
 
@@ -131,17 +122,21 @@ codes_told c ks = take_at (handed_codes c ks) _ (length ks) (one_code c ks)
 
 -- A second of a bench whose rules hold: 27 where its store is not sound; else the series, then what the store hands over. A sound store's group says
 -- the kinds that it was made of.
-module _ (b : Bench) (step : Step) (rules : rules_hold b ≡ true) (stepped : step ≡ stepped_of b.store) where
-  pub no_step : step.sound ≡ false → stayed_at b ≡ second_at b
-  no_step e = no_second b (by_store b rules ∙ sym (step_sound b.store step stepped) ∙ e)
+module _ (b : Bench) (rules : rules_hold b ≡ true) where
+  pub no_step : (unsound : Unsound) → Err unsound ≡ stepped_of b.store → stayed_at b ≡ second_at b
+  no_step unsound stepped = no_second b (by_store b rules ∙ sym (ap is_ok stepped ∙ step_sound b.store))
 
-  module _ (e : step.sound ≡ true) (says : bench_sound b ≡ true → kinds_in (group_of (next_group b.store)) ≡ next_group b.store) where
+  module _ (step : Step) (stepped : Ok step ≡ stepped_of b.store)
+      (says : bench_sound b ≡ true → kinds_in (group_of (next_group b.store)) ≡ next_group b.store) where
     sound : bench_sound b ≡ true
-    sound = by_store b rules ∙ sym (step_sound b.store step stepped) ∙ e
+    sound = by_store b rules ∙ sym (ap is_ok stepped ∙ step_sound b.store)
 
-    told : step ≡ step_with true (after_second b.store).running (after_second b.store).left (group_of (next_group b.store))
+    told : step ≡ step_with (after_second b.store).running (after_second b.store).left (group_of (next_group b.store))
     unfolding stepped_of
-    told = rw (sym (step_sound b.store step stepped) ∙ e) at stepped
+    told =
+        let whole : Ok step ≡ Ok (step_with (after_second b.store).running (after_second b.store).left (group_of (next_group b.store))) =
+        rw (sym (by_store b rules) ∙ sound) at stepped in
+        cc
 
     pub group_passed : step.group ≡ group_of (second_at b).handed
     unfolding second_at

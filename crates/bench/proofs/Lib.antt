@@ -37,8 +37,7 @@ mod Shapes
 mod Judging
 mod Executing
 mod Listing
-mod RawList
-mod TypedList
+mod Sources
 mod TypedRun
 mod TwoLists
 mod Ending

@@ -1,26 +1,27 @@
 -- Commands carried out one after another, as the code does it: those that are left, carried out from here, give what all of them give from the first.
--- The laws: the start, a turn, and the end. The bench stays sound on the way, and the tally that judges true of it. What is left of a raw list
--- or of a text, and how far a turn goes in it, is in `RawList` and `TypedList`.
-use Prim.Native.Nat.{ℕ, ◌+◌, ◌*◌, ◌-◌, ◌≤◌}
+-- The laws: the start, a turn, and the end. The bench stays sound on the way, and the tally that judges true of it. Where the commands come from
+-- is in `Sources`.
+use Prim.Native.Nat.{ℕ, ◌+◌, ◌*◌, ◌-◌, ◌≤◌, ◌<◌}
 use mathlib.Core.Path.{◌≡◌, refl, sym, ap, ◌∙◌, subst}
 use mathlib.Core.List.{List, [], ◌∷◌, ◌++◌, append_assoc}
 use native.Mathlib.Omega.{arith}
 use lib.ListN.{length, take, drop, length-append, length-drop, take-append-drop}
 use lib.Seq.{length-take-le, take-append-le, drop-append-le, take_at, drop_at, drop-drop}
 use borrow.Rule.Slice.PartMut.{put_mid}
+use Rattle.std.specs.Prelude.{Option, Some, None, Result, Ok, Err}
 use Rattle.words.specs.BigEndian.{written}
 use Rattle.words.proofs.Laws.{with_room, part_written}
 use Rattle.wire.specs.declared.kinds.Command.{Command}
-use Rattle.wire.specs.Read.{Answer}
+use Rattle.wire.specs.declared.judging.Refusal.{Refusal}
+use Rattle.wire.specs.Read.{Answer, answer_of, read_of}
 use Rattle.report.specs.Record.{record_length}
 use Rattle.store.specs.declared.tally.Tally.{Tally}
 use Rattle.store.specs.TallySteps.{store_of, pool_after, Tallied}
 use Rattle.bench.specs.declared.Bench.{Bench}
 use Rattle.bench.specs.declared.Works.{Works}
-use Rattle.bench.specs.declared.Verdict.{Verdict}
-use Rattle.bench.specs.declared.deciding.Decision.{Decision}
+use Rattle.bench.specs.declared.Rejection.{Rejection}
 use Rattle.bench.specs.Carry.{Outcome, taken}
-use Rattle.bench.specs.Steps.{bench_of, works_after, AtWork, decision_of, decided_in, bench_by, tally_by, carried_by}
+use Rattle.bench.specs.Steps.{bench_of, works_after, AtWork, decision_of, decided_in, bench_by, tally_by, carried_by, GivesOne, Gives}
 use Rattle.bench.specs.Run.{record_of, Listed, run_rests}
 use Rattle.bench.proofs.Sound.{GoodBench, taken_good}
 use Rattle.bench.proofs.ByTally.{taken_by, taken_tallied}
@@ -69,7 +70,7 @@ start w pool sender numbers rs room good is even =
 module _ {all : Listed} {many sender : ℕ} {room₀ room : List ℕ} {w : Works} {pool : List ℕ} {number : ℕ} {numbers r : List ℕ} {rs : List (List ℕ)}
     {n : ℕ}
     (behind : Behind all many sender room₀ room w pool (number ∷ numbers) (r ∷ rs) n)
-    (fits : many * record_length ≤ length room₀) (decision : Decision) {part : List ℕ}
+    (fits : many * record_length ≤ length room₀) (decision : Result Command Rejection) {part : List ℕ}
     (decided : decision_of decision ≡ decided_in w.camera.power w.tally r)
     (put : part ≡ written (record_of sender (decision_of decision).told number) (take (length room - n * record_length) (drop (n * record_length) room))) where
   abbrev b : Bench
@@ -157,19 +158,19 @@ module _ {all : Listed} {many sender : ℕ} {room₀ room : List ℕ} {w : Works
         }
 
   -- The turn of a refused command, which leaves the bench and the tally,
-  pub turn_refused : {verdict : Verdict} → decision ≡ Decision.Refused verdict
+  pub turn_refused : {rejection : Rejection} → decision ≡ Err rejection
       → Behind all many sender room₀ (put_mid (n * record_length) (length room - n * record_length) room part) w pool numbers rs (n + 1)
   turn_refused is =
-      turn (ap (λ (d : Decision). bench_by b t (decision_of d).taken) (sym is)) (ap (λ (d : Decision). tally_by t (decision_of d).taken) (sym is))
+      turn (ap (λ (d : Result Command Rejection). bench_by b t (decision_of d).taken) (sym is)) (ap (λ (d : Result Command Rejection). tally_by t (decision_of d).taken) (sym is))
 
   -- and that of an accepted one, which takes effect.
-  pub turn_accepted : {c : Command} {after : Works} {left : List ℕ} → decision ≡ Decision.Accepted c
+  pub turn_accepted : {c : Command} {after : Works} {left : List ℕ} → decision ≡ Ok c
       → after ≡ works_after w c → left ≡ pool_after pool t c
       → Behind all many sender room₀ (put_mid (n * record_length) (length room - n * record_length) room part) after left numbers rs (n + 1)
   turn_accepted is after_is left_is =
       turn
-      (rw (after_is, left_is) (ap (λ (d : Decision). bench_by b t (decision_of d).taken) (sym is)))
-      (rw after_is (ap (λ (d : Decision). tally_by t (decision_of d).taken) (sym is)))
+      (rw (after_is, left_is) (ap (λ (d : Result Command Rejection). bench_by b t (decision_of d).taken) (sym is)))
+      (rw after_is (ap (λ (d : Result Command Rejection). tally_by t (decision_of d).taken) (sym is)))
 
 -- The end: no command is left.
 module _ {all : Listed} {many sender : ℕ} {room₀ room : List ℕ} {w : Works} {pool : List ℕ} {n : ℕ}
@@ -190,3 +191,54 @@ module _ {all : Listed} {many sender : ℕ} {room₀ room : List ℕ} {w : Works
 
   pub all_ended : (bench_of w pool ≡ all.bench) × (((n ≡ many) × AtWork w pool) × (room ≡ written all.records room₀))
   all_ended = (bench_ended, ((omega (arith, behind.counted), at_work), room_ended))
+
+-- What a source gives, known to be one or none.
+pub given_next : {rs later : List (List ℕ)} {numbers later_numbers : List ℕ} {o : Option (ℕ × Result Command Refusal)} {next : ℕ × Result Command Refusal}
+    → o ≡ Some next → Gives rs numbers o later later_numbers → GivesOne rs numbers next.0 next.1 later later_numbers
+given_next {rs} {later} {numbers} {later_numbers} is gives = subst (λ p. Gives rs numbers p later later_numbers) is gives
+
+pub given_none : {rs : List (List ℕ)} (later : List (List ℕ)) (numbers later_numbers : List ℕ) {o : Option (ℕ × Result Command Refusal)} → o ≡ None
+    → Gives rs numbers o later later_numbers → rs ≡ []
+given_none {rs} later numbers later_numbers is gives = subst (λ p. Gives rs numbers p later later_numbers) is gives
+
+-- The same, as a source gives the commands: the next one, with its number and what it was read as, or none.
+module _ {all : Listed} {many sender : ℕ} {room₀ room : List ℕ} {w : Works} {pool numbers later_numbers : List ℕ} {rs later : List (List ℕ)} {n : ℕ}
+    (behind : Behind all many sender room₀ room w pool numbers rs n) where
+  module _ {number : ℕ} {read : Result Command Refusal} (given : GivesOne rs numbers number read later later_numbers) where
+    next : Behind all many sender room₀ room w pool (number ∷ later_numbers) (given.rest ∷ later) n
+    next =
+        subst (λ ns. Behind all many sender room₀ room w pool ns (given.rest ∷ later) n) given.numbers_are
+        (subst (λ xs. Behind all many sender room₀ room w pool numbers xs n) given.commands_are behind)
+
+    pub one_less : length later < length rs
+    one_less = omega (arith, ap length given.commands_are)
+
+    module _ (fits : many * record_length ≤ length room₀) where
+      -- Its record has room, and its place is one of so many.
+      pub room_left : (n * record_length + record_length ≤ length room) × (n + 1 ≤ many)
+      room_left = (omega (arith, next.counted, next.same), omega (arith, next.counted))
+
+      module _ (decision : Result Command Rejection) {part : List ℕ}
+          (decided : (s : List ℕ) → answer_of read ≡ read_of s → decision_of decision ≡ decided_in w.camera.power w.tally s)
+          (put : part ≡ written (record_of sender (decision_of decision).told number) (take (length room - n * record_length) (drop (n * record_length) room))) where
+        pub given_refused : {rejection : Rejection} → decision ≡ Err rejection
+            → Behind all many sender room₀ (put_mid (n * record_length) (length room - n * record_length) room part) w pool later_numbers later (n + 1)
+        given_refused is = turn_refused next fits decision (decided given.rest given.reads) put is
+
+        pub given_accepted : {c : Command} {after : Works} {left : List ℕ} → decision ≡ Ok c → after ≡ works_after w c → left ≡ pool_after pool w.tally c
+            → Behind all many sender room₀ (put_mid (n * record_length) (length room - n * record_length) room part) after left later_numbers later (n + 1)
+        given_accepted is after_is left_is = turn_accepted next fits decision (decided given.rest given.reads) put is after_is left_is
+
+-- It gives none: so none is left.
+module _ {all : Listed} {many sender : ℕ} {room₀ room : List ℕ} {w : Works} {pool numbers : List ℕ} {rs : List (List ℕ)} {n : ℕ}
+    (behind : Behind all many sender room₀ room w pool numbers rs n) where
+  pub none_given : rs ≡ [] → (bench_of w pool ≡ all.bench) × (((n ≡ many) × AtWork w pool) × (room ≡ written all.records room₀))
+  none_given none =
+      let no_number : numbers ≡ [] = empty numbers (behind.even ∙ ap length none) in
+      all_ended
+      (subst (λ ns. Behind all many sender room₀ room w pool ns [] n) no_number
+      (subst (λ xs. Behind all many sender room₀ room w pool numbers xs n) none behind))
+    where
+      empty : (ns : List ℕ) → length ns ≡ 0 → ns ≡ []
+      empty [] e = refl
+      empty (m ∷ ms) e = absurd (omega arith)

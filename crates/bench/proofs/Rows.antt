@@ -23,7 +23,6 @@ use Rattle.wire.specs.Kind.{parts_of}
 use Rattle.wire.specs.declared.kinds.Parts.{Parts}
 use Rattle.wire.proofs.Parameters.{SomeOut, Parameter, RangeRow, parameter, eight, range_args, range_read, range_none, range_append, read_eight}
 use Rattle.report.specs.Record.{report_room, put_code}
-use Rattle.text.specs.declared.names.Named.{Named}
 use Rattle.text.specs.declared.findings.Finding.{Finding}
 use Rattle.text.specs.Split.{lines_of, words_of}
 use Rattle.text.specs.Names.{form_named}
@@ -173,9 +172,9 @@ line_not_27 : (l : List ℕ) → (line_of l).told.code ≢ 27
 unfolding line_of typed_as
 line_not_27 l = go (is_blank l) (words (form_named (name_in (words_of (body_in l)))))
   where
-    words : (named : Named) → first_of (line_checks named (flag_in l) (words_of (body_in l))) ≢ 27
-    words (Named.Known form) = code_lacked 27 (line_checks (Named.Known form) (flag_in l) (words_of (body_in l))) refl (λ e. omega arith)
-    words Named.Unknown = code_lacked 27 (line_checks Named.Unknown (flag_in l) (words_of (body_in l))) refl (λ e. omega arith)
+    words : (named : Option Form) → first_of (line_checks named (flag_in l) (words_of (body_in l))) ≢ 27
+    words (Some form) = code_lacked 27 (line_checks (Some form) (flag_in l) (words_of (body_in l))) refl (λ e. omega arith)
+    words None = code_lacked 27 (line_checks None (flag_in l) (words_of (body_in l))) refl (λ e. omega arith)
 
     go : (t : Bool) → (typed_as (flag_in l) (words_of (body_in l))).told.code ≢ 27
         → (cond t (record { told = plain 0; taken = [] }) (typed_as (flag_in l) (words_of (body_in l)))).told.code ≢ 27

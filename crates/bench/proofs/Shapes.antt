@@ -1,23 +1,28 @@
--- A bench of a program has the shape that its type says, whole or at work. So where its survey calls it sound it is a good bench, and the survey's
--- tally is true of it.
+-- A bench of a program has the shape that its type says, whole or at work. So where it is judged sound it is a good bench, and its own tally is true of
+-- it.
 use Prim.Native.Nat.{ℕ}
-use mathlib.Core.Path.{◌≡◌, sym, ap, ◌∙◌, subst}
+use mathlib.Core.Path.{◌≡◌, refl, sym, ap, ◌∙◌, subst}
 use mathlib.Core.List.{List, [], ◌∷◌}
 use mathlib.Core.Bool.{true, false}
 use borrow.Author.Rules.{rules}
 use denote.Laws.{Is}
 use denote.Struct.Declared.{row}
 use denote.Struct.Laws.{val}
+use Rattle.std.specs.Prelude.{Result}
+use Rattle.wire.specs.declared.kinds.Command.{Command}
 use Rattle.store.specs.declared.Store.{Store}
-use Rattle.store.specs.declared.tally.Survey.{Survey}
-use Rattle.store.specs.TallySteps.{store_of, Tallied}
+use Rattle.store.specs.declared.tally.Tally.{Tally}
+use Rattle.store.specs.TallySteps.{tally_of, store_of, Tallied}
 use Rattle.store.proofs.Sound.{Shaped}
 use Rattle.store.proofs.Tallies.{tallied_own}
 use Rattle.bench.specs.declared.Bench.{Bench}
 use Rattle.bench.specs.declared.Works.{Works}
+use Rattle.bench.specs.declared.Rejection.{Rejection}
 use Rattle.bench.specs.Status.{bench_sound}
-use Rattle.bench.specs.Steps.{works_of, bench_of, AtWork, surveyed}
+use Rattle.bench.specs.Carry.{carry_out, carry_out_bytes}
+use Rattle.bench.specs.Steps.{works_of, bench_of, AtWork, decision_of, decided_by, decided_in, carried_by}
 use Rattle.bench.proofs.Sound.{GoodBench}
+use Rattle.bench.proofs.ByTally.{carried_by_lem, carried_bytes_by}
 use Rattle.bench.specs.contracts.Bench.{the_type}
 use Rattle.bench.proofs.Bench.TheLaws.{the_laws}
 use Rattle.bench.specs.contracts.Works as works
@@ -39,30 +44,37 @@ pub at_work_good : (w : Works) (pool : List ℕ) → TypedWorks w → AtWork w p
 at_work_good w pool typed h =
     record { sound = h.sound; shaped = record { pool = h.whole; counts = search rules; marks = search rules } }
 
--- What a survey of it tells.
-module _ (b : Bench) (typed : Typed b) (survey : Survey) (is : survey ≡ surveyed b) where
-  pub survey_unsound : survey.sound ≡ false → bench_sound b ≡ false
-  survey_unsound e = sym (ap (λ (s : Survey). s.sound) is) ∙ e
+-- So is one that was judged sound, and its own tally is true of it.
+module _ (b : Bench) (typed : Typed b) (sound : true ≡ bench_sound b) where
+  pub judged_good : GoodBench b
+  judged_good = record { sound = sym sound; shaped = shaped b typed }
 
-  pub survey_good : survey.sound ≡ true → GoodBench b
-  survey_good e = record { sound = sym (ap (λ (s : Survey). s.sound) is) ∙ e; shaped = shaped b typed }
+  pub own_tallied : Tallied b.store (tally_of b.store)
+  own_tallied = tallied_own b.store (shaped b typed)
 
-  pub survey_tallied : Tallied b.store survey.tally
-  survey_tallied = subst (λ (s : Survey). Tallied b.store s.tally) (sym is) (tallied_own b.store (shaped b typed))
-
-  -- What is at work of the bench, with the survey's tally, is that bench on its pool.
-  module _ (works : Works) (own : works ≡ works_of b) where
+  -- What is at work of the bench, with that tally, is that bench on its pool.
+  module _ (works : Works) (own : works ≡ works_of b) (tally : Tally) (is : tally ≡ tally_of b.store) where
     abbrev judged : Works
-    judged = record { camera = works.camera; tally = survey.tally; latest = works.latest }
+    judged = record { camera = works.camera; tally = tally; latest = works.latest }
 
-    pub survey_bench : bench_of judged b.store.pool ≡ b
-    survey_bench = rw (is, own)
+    pub judged_bench : bench_of judged b.store.pool ≡ b
+    judged_bench = rw (own, is) refl
 
-    pub survey_at_work : survey.sound ≡ true → AtWork judged b.store.pool
-    survey_at_work e =
-        let same : store_of b.store.pool survey.tally ≡ b.store = survey_tallied.same in
+    pub judged_at_work : AtWork judged b.store.pool
+    judged_at_work =
         record {
           whole = (shaped b typed).pool;
-          sound = ap bench_sound survey_bench ∙ (survey_good e).sound;
-          tallied = subst (λ (s : Store). Tallied s survey.tally) (sym same) survey_tallied;
+          sound = ap bench_sound judged_bench ∙ sym sound;
+          tallied = rw is own_tallied;
         }
+
+  -- What was decided by it, carried out, is what carrying out promises.
+  module _ (tally : Tally) (is : tally ≡ tally_of b.store) (decision : Result Command Rejection) where
+    pub decided_out : (c : Command) → decision_of decision ≡ decided_by b.camera.power tally c → carried_by b tally (decision_of decision) ≡ carry_out b c
+    decided_out c decided =
+        ap (carried_by b tally) decided ∙ carried_by_lem b tally judged_good (subst (Tallied b.store) (sym is) own_tallied) c
+
+    pub decided_bytes_out : (s : List ℕ) → decision_of decision ≡ decided_in b.camera.power tally s
+        → carried_by b tally (decision_of decision) ≡ carry_out_bytes b s
+    decided_bytes_out s decided =
+        ap (carried_by b tally) decided ∙ carried_bytes_by b tally judged_good (subst (Tallied b.store) (sym is) own_tallied) s

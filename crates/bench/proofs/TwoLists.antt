@@ -1,31 +1,50 @@
 -- A whole run, from what the code finds: what a refused run leaves, and that the records of both lists, the pupil's put behind the kit's, are the
 -- report put as one.
-use Prim.Native.Nat.{ℕ, ◌+◌, ◌*◌, ◌-◌, ◌≤◌}
+use Prim.Native.Nat.{ℕ, ◌+◌, ◌*◌, ◌-◌, ◌≤◌, ◌<◌}
 use mathlib.Core.Path.{◌≡◌, refl, sym, ap, ◌∙◌}
 use mathlib.Core.List.{List, ◌++◌}
-use mathlib.Core.Bool.{false}
+use mathlib.Core.Bool.{true, false}
 use native.Mathlib.Omega.{arith}
 use lib.ListN.{length, take, drop, length-append, length-drop}
 use lib.Seq.{take_at, drop_at}
 use lib.Dec.{eqb}
 use borrow.Rule.Slice.PartMut.{put_mid}
-use Rattle.report.specs.Record.{record_length}
+use borrow.Author.Tests.{lt-ltb, le-ltb}
+use Rattle.std.specs.Prelude.{Result, Ok, Err}
+use Rattle.report.specs.Record.{record_length, report_room}
 use Rattle.words.specs.BigEndian.{written}
 use Rattle.words.proofs.Laws.{with_room, part_written}
 use Rattle.walk.specs.Walk.{rests}
+use Rattle.walk.proofs.Rests.{rests_512}
 use Rattle.walk.proofs.Turns.{from_place}
 use Rattle.bench.specs.declared.Bench.{Bench}
 use Rattle.bench.specs.declared.lists.Ran.{Ran}
-use Rattle.bench.specs.declared.lists.Begun.{Begun}
-use Rattle.bench.specs.Run.{own_numbers, run_list, kit_part, pupil_with, ended_as, ended_with, report_with, report_of}
-use Rattle.bench.specs.Run.{run_code, begun_code, ran_of, run_of, room_after}
-use Rattle.bench.specs.Steps.{refused_with}
+use Rattle.bench.specs.declared.lists.RunRefusal.{RunRefusal}
+use Rattle.bench.specs.Status.{bench_sound}
+use Rattle.bench.specs.Run.{Listed, numbers_from, own_numbers, run_rests, kit_part, ended_as, run_code, begun_code, ran_of, run_of, room_after}
+use Rattle.bench.specs.Steps.{Even, pupil_by, ended_by, report_by, judged_code, judged_run, judged_room}
 use Rattle.bench.proofs.InTurn.{own_even}
 use Rattle.bench.proofs.Listing.{records_long, written_both}
 
+-- A raw list from its start has its own numbers, which are even with its commands.
+module _ (list : List ℕ) {left : List ℕ} {number : ℕ} (is : (left ≡ list) × (number ≡ 0)) where
+  pub raw_even : length list ≤ 4096 → Even (numbers_from (number + 1) (rests left)) (rests left)
+  raw_even short = rw (is.0, is.1) (own_even list, rests_512 list short)
+
+  -- So the kit's list leaves what it is said to leave.
+  pub kit_done : (b : Bench) (room : List ℕ) {b₀ b₁ : Bench} {m : ℕ} {room₁ : List ℕ} → b₀ ≡ b
+      → b₁ ≡ (run_rests b₀ 1 (numbers_from (number + 1) (rests left)) (rests left)).bench → m ≡ length (rests left)
+      → room₁ ≡ written (run_rests b₀ 1 (numbers_from (number + 1) (rests left)) (rests left)).records room
+      → (m ≡ length (rests list)) × ((b₁ ≡ (kit_part b list).bench) × (room₁ ≡ written (kit_part b list).records room))
+  kit_done b room {b₀} b₀_is b₁_is m_is room₁_is =
+      let part : run_rests b₀ 1 (numbers_from (number + 1) (rests left)) (rests left) ≡ kit_part b list = rw (is.0, is.1, b₀_is) refl in (
+        m_is ∙ ap (λ s. length (rests s)) is.0,
+        (b₁_is ∙ ap (λ (l : Listed). l.bench) part, room₁_is ∙ ap (λ (l : Listed). written l.records room) part),
+      )
+
 -- The records of both lists have room, whatever the pupil's numbers are, and the kit's list was carried out with m records.
-module _ (b : Bench) (kit numbers pupil room : List ℕ) (even : length numbers ≡ length (rests pupil))
-    (fits : (length (rests kit) + length (rests pupil)) * record_length ≤ length room) {m : ℕ} {b₁ : Bench} {room₁ : List ℕ}
+module _ (b : Bench) (kit numbers : List ℕ) (rs : List (List ℕ)) (room : List ℕ) (even : length numbers ≡ length rs)
+    (fits : (length (rests kit) + length rs) * record_length ≤ length room) {m : ℕ} {b₁ : Bench} {room₁ : List ℕ}
     (m_is : m ≡ length (rests kit)) (b₁_is : b₁ ≡ (kit_part b kit).bench) (room₁_is : room₁ ≡ written (kit_part b kit).records room) where
   abbrev first : List ℕ
   first = (kit_part b kit).records
@@ -37,48 +56,84 @@ module _ (b : Bench) (kit numbers pupil room : List ℕ) (even : length numbers 
   first_put = room₁_is ∙ with_room first room (omega (arith, first_long))
 
   -- So the pupil's have room behind the kit's.
-  pub rest_fits : (m + length (rests pupil)) * record_length ≤ length room₁
+  pub rest_fits : (m + length rs) * record_length ≤ length room₁
   rest_fits =
       let long = ap length first_put ∙ length-append first (drop (length first) room) in
       omega (arith, first_long, length-drop (length first) room)
 
-  pub part_fits : length (rests pupil) * record_length ≤ length (take (length room₁ - m * record_length) (drop (m * record_length) room₁))
+  pub part_fits : length rs * record_length ≤ length (take (length room₁ - m * record_length) (drop (m * record_length) room₁))
   part_fits = rw (from_place room₁ (m * record_length)) (omega (arith, rest_fits, length-drop (m * record_length) room₁))
 
   -- The pupil's list was carried out then, in that part of the room.
-  module _ {b₂ : Bench} {part : List ℕ} (b₂_is : b₂ ≡ ended_as (run_list b₁ 2 numbers pupil) (length (rests pupil)))
-      (part_is : part ≡ written (run_list b₁ 2 numbers pupil).records (take (length room₁ - m * record_length) (drop (m * record_length) room₁))) where
+  module _ {b₂ : Bench} {part : List ℕ} (b₂_is : b₂ ≡ ended_as (run_rests b₁ 2 numbers rs) (length rs))
+      (part_is : part ≡ written (run_rests b₁ 2 numbers rs).records (take (length room₁ - m * record_length) (drop (m * record_length) room₁))) where
     abbrev second : List ℕ
-    second = (pupil_with b kit numbers pupil).records
+    second = (pupil_by b kit numbers rs).records
 
-    pub bench_left : b₂ ≡ ended_with b kit numbers pupil
-    bench_left = b₂_is ∙ ap (λ (b : Bench). ended_as (run_list b 2 numbers pupil) (length (rests pupil))) b₁_is
+    pub bench_left : b₂ ≡ ended_by b kit numbers rs
+    bench_left = b₂_is ∙ ap (λ (b : Bench). ended_as (run_rests b 2 numbers rs) (length rs)) b₁_is
 
     pupil_put : part ≡ written second (take (length room₁ - m * record_length) (drop (m * record_length) room₁))
     pupil_put =
         part_is
-        ∙ ap (λ (b : Bench). written (run_list b 2 numbers pupil).records (take (length room₁ - m * record_length) (drop (m * record_length) room₁))) b₁_is
+        ∙ ap (λ (b : Bench). written (run_rests b 2 numbers rs).records (take (length room₁ - m * record_length) (drop (m * record_length) room₁))) b₁_is
 
-    pub both_put : put_mid (m * record_length) (length room₁ - m * record_length) room₁ part ≡ written (report_with b kit numbers pupil) room
+    pub both_put : put_mid (m * record_length) (length room₁ - m * record_length) room₁ part ≡ written (report_by b kit numbers rs) room
     both_put =
         part_written (m * record_length) second room₁ part (omega (arith, rest_fits)) pupil_put
         ∙ rw (first_put, take_at first (drop (length first) room) (m * record_length) first_long, drop_at first (drop (length first) room) (m * record_length) first_long)
-        (sym (written_both first second room (omega (arith, first_long, records_long (kit_part b kit).bench 2 numbers (rests pupil) even))))
+        (sym (written_both first second room (omega (arith, first_long, records_long (kit_part b kit).bench 2 numbers rs even))))
 
-module _ (b : Bench) (kit pupil room : List ℕ) where
-  -- What a run promises of its answer and of its room afterwards.
-  abbrev pub Promise : Ran → List ℕ → Type 0
-  Promise r left = (ran_of r ≡ run_of b kit pupil room) × (left ≡ room_after b kit pupil room)
+-- No refusal of a run has code 0.
+begun_other : (refusal : RunRefusal) → eqb (begun_code refusal) 0 ≡ false
+begun_other RunRefusal.ListTooLong = refl
+begun_other RunRefusal.RoomTooSmall = refl
+begun_other RunRefusal.Unsound = refl
+
+-- A run whose lists were judged.
+module _ (b : Bench) (kit numbers : List ℕ) (rs : List (List ℕ)) (room : List ℕ) where
+  -- What it promises of its answer and of its room afterwards.
+  abbrev pub Promise : Result Ran RunRefusal → List ℕ → Type 0
+  Promise r left = (ran_of b r ≡ judged_run b kit numbers rs room) × (left ≡ judged_room b kit numbers rs room)
 
   -- A refused run: the bench and the room as they were, and counts of zero.
-  pub refused_run : (begun : Begun) (r : Ran) → r ≡ refused_with b begun → eqb (begun_code begun) 0 ≡ false → run_code b kit pupil room ≡ begun_code begun
-      → Promise r room
-  unfolding run_of room_after
-  refused_run begun r is other code = rw (is, code, other) (refl, refl)
+  refused_run : (refusal : RunRefusal) → judged_code b room ≡ begun_code refusal → Promise (Err refusal) room
+  refused_run refusal code = rw (code, begun_other refusal) (refl, refl)
 
-  -- A run that was carried out.
-  pub run_done : {m n : ℕ} {b₂ : Bench} {left : List ℕ} → run_code b kit pupil room ≡ 0 → m ≡ length (rests kit) → n ≡ length (rests pupil)
-      → b₂ ≡ ended_with b kit (own_numbers pupil) pupil → left ≡ written (report_of b kit pupil) room
-      → Promise (record { bench = b₂; begun = Begun.Done; kit = m; pupil = n }) left
+  pub room_small : length room < report_room → Promise (Err RunRefusal.RoomTooSmall) room
+  room_small small = refused_run RunRefusal.RoomTooSmall (rw (lt-ltb (length room) report_room small))
+
+  module _ (enough : report_room ≤ length room) where
+    pub not_sound : bench_sound b ≡ false → Promise (Err RunRefusal.Unsound) room
+    not_sound unsound = refused_run RunRefusal.Unsound (rw (le-ltb (length room) report_room enough, unsound))
+
+    -- A run that was carried out.
+    pub run_done : {m n : ℕ} {b₂ : Bench} {left : List ℕ} → bench_sound b ≡ true → m ≡ length (rests kit) → n ≡ length rs
+        → b₂ ≡ ended_by b kit numbers rs → left ≡ written (report_by b kit numbers rs) room
+        → Promise (Ok (record { bench = b₂; kit = m; pupil = n })) left
+    run_done sound m_is n_is bench_is room_is =
+        let code : judged_code b room ≡ 0 = rw (le-ltb (length room) report_room enough, sound) in
+        (rw (code, bench_is, m_is, n_is), rw code room_is)
+
+-- The run of two raw lists: one that is too long is refused, else it is such a run.
+module _ (b : Bench) (kit pupil room : List ℕ) where
+  abbrev pub RawPromise : Result Ran RunRefusal → List ℕ → Type 0
+  RawPromise r left = (ran_of b r ≡ run_of b kit pupil room) × (left ≡ room_after b kit pupil room)
+
+  too_long : run_code b kit pupil room ≡ 20 → RawPromise (Err RunRefusal.ListTooLong) room
   unfolding run_of room_after
-  run_done code m_is n_is bench_is room_is = (rw (code, bench_is, m_is, n_is), rw code room_is)
+  too_long code = rw code (refl, refl)
+
+  pub kit_long : 4096 < length kit → RawPromise (Err RunRefusal.ListTooLong) room
+  unfolding run_code
+  kit_long long = too_long (rw (lt-ltb 4096 (length kit) long))
+
+  module _ (short : length kit ≤ 4096) where
+    pub pupil_long : 4096 < length pupil → RawPromise (Err RunRefusal.ListTooLong) room
+    unfolding run_code
+    pupil_long long = too_long (rw (le-ltb 4096 (length kit) short, lt-ltb 4096 (length pupil) long))
+
+    pub raw_run : (r : Result Ran RunRefusal) {left front : List ℕ} {number : ℕ} → length pupil ≤ 4096 → (front ≡ pupil) × (number ≡ 0)
+        → Promise b kit (numbers_from (number + 1) (rests front)) (rests front) room r left → RawPromise r left
+    unfolding run_of room_after run_code
+    raw_run r short_too is promise = rw (le-ltb 4096 (length kit) short, le-ltb 4096 (length pupil) short_too) (rw (is.0, is.1) at promise)

@@ -1,12 +1,15 @@
 -- 01, "What each promise answers for": two results that one promise allows are equal. The numbers and values that 01 gives to an answer say which it
 -- was.
-use Prim.Native.Nat.{ℕ}
+use Prim.Native.Nat.{ℕ, ◌<◌}
 use mathlib.Core.Path.{◌≡◌, refl, sym, ap, ◌∙◌}
 use mathlib.Core.List.{[], ◌∷◌}
 use mathlib.Core.Bool.{cond, ◌&&◌, ◌||◌}
 use native.Mathlib.Omega.{arith}
 use lib.Dec.{eqb, leb}
+use Rattle.std.specs.Prelude.{Result, Ok, Err, IfOk}
 use Rattle.words.proofs.Laws.{one_to_one}
+use Rattle.frame.specs.declared.Frame.{Frame}
+use Rattle.housekeeping.specs.declared.Housekeeping.{Housekeeping}
 use Rattle.wire.specs.declared.judging.Refusal.{Refusal}
 use Rattle.wire.specs.declared.judging.Told.{Told}
 use Rattle.wire.specs.Judge.{told_of}
@@ -15,23 +18,20 @@ use Rattle.store.specs.declared.checks.Denial.{Denial}
 use Rattle.store.specs.Checks.{code_of}
 use Rattle.store.specs.Effects.{group_of}
 use Rattle.store.proofs.Unique.{denial_told}
-use Rattle.bench.specs.declared.Verdict.{Verdict}
-use Rattle.bench.specs.declared.Carried.{Carried}
+use Rattle.store.specs.declared.Unsound.{Unsound}
+use Rattle.bench.specs.declared.Bench.{Bench}
+use Rattle.bench.specs.declared.Rejection.{Rejection}
 use Rattle.bench.specs.declared.Passed.{Passed}
-use Rattle.bench.specs.declared.Status.{Status}
-use Rattle.bench.specs.declared.Free.{Free}
-use Rattle.bench.specs.declared.Housekept.{Housekept}
 use Rattle.bench.specs.Status.{StatusTold, told_status, FreeTold, told_free, HousekeepingTold, told_housekeeping}
 use Rattle.bench.specs.Carry.{Outcome, verdict_of, outcome_of}
 use Rattle.bench.specs.Second.{SecondTold, passed_of, codes_shown}
 
--- Which of the five verdicts a verdict is, and which one a code tells of.
-abbrev place_of : Verdict → ℕ
-place_of Verdict.Accepted = 0
-place_of Verdict.Unsound = 1
-place_of (Verdict.Misread refusal) = 2
-place_of (Verdict.Denied denial) = 3
-place_of Verdict.Dark = 4
+-- Which of the four rejections a rejection is, and which one a code tells of; 0 is acceptance.
+abbrev place_of : Rejection → ℕ
+place_of Rejection.Unsound = 1
+place_of (Rejection.Misread refusal) = 2
+place_of (Rejection.Denied denial) = 3
+place_of Rejection.Dark = 4
 
 abbrev place_told : ℕ → ℕ
 place_told code =
@@ -62,95 +62,103 @@ denial_place Denial.NotBelow = refl
 denial_place Denial.NotClosed = refl
 denial_place Denial.Running = refl
 
-place_told_lem : (v : Verdict) → place_told (verdict_of v).code ≡ place_of v
-place_told_lem Verdict.Accepted = refl
-place_told_lem Verdict.Unsound = refl
-place_told_lem (Verdict.Misread refusal) = refusal_place refusal
-place_told_lem (Verdict.Denied denial) = denial_place denial
-place_told_lem Verdict.Dark = refl
+place_told_lem : (r : Rejection) → place_told (verdict_of r).code ≡ place_of r
+place_told_lem Rejection.Unsound = refl
+place_told_lem (Rejection.Misread refusal) = refusal_place refusal
+place_told_lem (Rejection.Denied denial) = denial_place denial
+place_told_lem Rejection.Dark = refl
 
--- Two verdicts of which the same is told are the same.
-one_placed : (a b : Verdict) → place_of a ≡ place_of b → verdict_of a ≡ verdict_of b → a ≡ b
-one_placed Verdict.Accepted Verdict.Accepted p e = refl
-one_placed Verdict.Unsound Verdict.Unsound p e = refl
-one_placed Verdict.Dark Verdict.Dark p e = refl
-one_placed (Verdict.Misread r) (Verdict.Misread s) p e = ap Verdict.Misread (one_refusal r s e)
-one_placed (Verdict.Denied c) (Verdict.Denied d) p e = ap Verdict.Denied (denial_told c d (ap (λ (t : Told). t.code) e))
-one_placed Verdict.Accepted Verdict.Unsound p e = absurd (omega arith)
-one_placed Verdict.Accepted (Verdict.Misread r) p e = absurd (omega arith)
-one_placed Verdict.Accepted (Verdict.Denied d) p e = absurd (omega arith)
-one_placed Verdict.Unsound Verdict.Accepted p e = absurd (omega arith)
-one_placed Verdict.Unsound (Verdict.Misread r) p e = absurd (omega arith)
-one_placed Verdict.Unsound (Verdict.Denied d) p e = absurd (omega arith)
-one_placed (Verdict.Misread r) Verdict.Accepted p e = absurd (omega arith)
-one_placed (Verdict.Misread r) Verdict.Unsound p e = absurd (omega arith)
-one_placed (Verdict.Misread r) (Verdict.Denied d) p e = absurd (omega arith)
-one_placed (Verdict.Denied d) Verdict.Accepted p e = absurd (omega arith)
-one_placed (Verdict.Denied d) Verdict.Unsound p e = absurd (omega arith)
-one_placed (Verdict.Denied d) (Verdict.Misread r) p e = absurd (omega arith)
-one_placed Verdict.Dark Verdict.Accepted p e = absurd (omega arith)
-one_placed Verdict.Dark Verdict.Unsound p e = absurd (omega arith)
-one_placed Verdict.Dark (Verdict.Misread r) p e = absurd (omega arith)
-one_placed Verdict.Dark (Verdict.Denied d) p e = absurd (omega arith)
-one_placed Verdict.Accepted Verdict.Dark p e = absurd (omega arith)
-one_placed Verdict.Unsound Verdict.Dark p e = absurd (omega arith)
-one_placed (Verdict.Misread r) Verdict.Dark p e = absurd (omega arith)
-one_placed (Verdict.Denied d) Verdict.Dark p e = absurd (omega arith)
+place_some : (r : Rejection) → 0 < place_of r
+place_some Rejection.Unsound = omega arith
+place_some (Rejection.Misread refusal) = omega arith
+place_some (Rejection.Denied denial) = omega arith
+place_some Rejection.Dark = omega arith
 
-pub one_verdict : (a b : Verdict) → verdict_of a ≡ verdict_of b → a ≡ b
+-- Two rejections of which the same is told are the same.
+one_placed : (a b : Rejection) → place_of a ≡ place_of b → verdict_of a ≡ verdict_of b → a ≡ b
+one_placed Rejection.Unsound Rejection.Unsound p e = refl
+one_placed Rejection.Dark Rejection.Dark p e = refl
+one_placed (Rejection.Misread r) (Rejection.Misread s) p e = ap Rejection.Misread (one_refusal r s e)
+one_placed (Rejection.Denied c) (Rejection.Denied d) p e = ap Rejection.Denied (denial_told c d (ap (λ (t : Told). t.code) e))
+one_placed Rejection.Unsound (Rejection.Misread r) p e = absurd (omega arith)
+one_placed Rejection.Unsound (Rejection.Denied d) p e = absurd (omega arith)
+one_placed Rejection.Unsound Rejection.Dark p e = absurd (omega arith)
+one_placed (Rejection.Misread r) Rejection.Unsound p e = absurd (omega arith)
+one_placed (Rejection.Misread r) (Rejection.Denied d) p e = absurd (omega arith)
+one_placed (Rejection.Misread r) Rejection.Dark p e = absurd (omega arith)
+one_placed (Rejection.Denied d) Rejection.Unsound p e = absurd (omega arith)
+one_placed (Rejection.Denied d) (Rejection.Misread r) p e = absurd (omega arith)
+one_placed (Rejection.Denied d) Rejection.Dark p e = absurd (omega arith)
+one_placed Rejection.Dark Rejection.Unsound p e = absurd (omega arith)
+one_placed Rejection.Dark (Rejection.Misread r) p e = absurd (omega arith)
+one_placed Rejection.Dark (Rejection.Denied d) p e = absurd (omega arith)
+
+pub one_verdict : (a b : Rejection) → verdict_of a ≡ verdict_of b → a ≡ b
 one_verdict a b e = one_placed a b (sym (place_told_lem a) ∙ ap (λ (t : Told). place_told t.code) e ∙ place_told_lem b) e
 
--- Two results of `carry_out` or of `carry_out_bytes` with the same outcome are the same.
-pub one_carried : (a b : Carried) → outcome_of a ≡ outcome_of b → a ≡ b
-one_carried a b e =
-    let verdict : a.verdict ≡ b.verdict = one_verdict a.verdict b.verdict (ap (λ (o : Outcome). o.told) e) in
-    let bench : a.bench ≡ b.bench = ap (λ (o : Outcome). o.bench) e in
-    rw (verdict, bench)
+-- No rejection has code 0.
+rejected : {A : Type 0} (r : Rejection) → 0 ≡ (verdict_of r).code → A
+rejected r e =
+    let none : 0 ≡ place_of r = ap place_told e ∙ place_told_lem r in
+    absurd (omega (arith, none, place_some r))
 
--- Two results of `second` that tell the same, with groups and codes of what they tell, are the same.
-pub record Tells (told : SecondTold) (r : Passed) : Type 0 where
-  pub tells : passed_of r ≡ told
-  pub group : r.group ≡ group_of told.handed
-  pub codes : r.codes ≡ codes_shown told.codes
+-- Two results of `carry_out` or of `carry_out_bytes` on a bench, with the same outcome, are the same.
+pub one_carried : (before : Bench) (a b : Result Bench Rejection) → outcome_of before a ≡ outcome_of before b → a ≡ b
+one_carried before (Ok a) (Ok b) e = ap Ok (ap (λ (o : Outcome). o.bench) e)
+one_carried before (Err r) (Err s) e = ap Err (one_verdict r s (ap (λ (o : Outcome). o.told) e))
+one_carried before (Ok a) (Err s) e = rejected s (ap (λ (o : Outcome). o.told.code) e)
+one_carried before (Err r) (Ok b) e = rejected r (sym (ap (λ (o : Outcome). o.told.code) e))
 
-pub one_passed : (told : SecondTold) (a b : Passed) → Tells told a → Tells told b → a ≡ b
-one_passed told a b of_a of_b =
-    let same : passed_of a ≡ passed_of b = of_a.tells ∙ sym of_b.tells in
-    let verdict : a.verdict ≡ b.verdict = one_verdict a.verdict b.verdict (ap (λ (o : SecondTold). o.told) same) in
+-- Two results of `second` on a bench that tell the same, with groups and codes of what they tell, are the same.
+pub record Tells (before : Bench) (told : SecondTold) (r : Result Passed Unsound) : Type 0 where
+  pub tells : passed_of before r ≡ told
+  pub group : IfOk r (λ (p : Passed). p.group ≡ group_of told.handed)
+  pub codes : IfOk r (λ (p : Passed). p.codes ≡ codes_shown told.codes)
+
+pub one_passed : (before : Bench) (told : SecondTold) (a b : Result Passed Unsound) → Tells before told a → Tells before told b → a ≡ b
+one_passed before told (Ok a) (Ok b) of_a of_b =
+    let same = of_a.tells ∙ sym of_b.tells in
     let group : a.group ≡ b.group = of_a.group ∙ sym of_b.group in
     let codes : a.codes ≡ b.codes = of_a.codes ∙ sym of_b.codes in
     let bench : a.bench ≡ b.bench = ap (λ (o : SecondTold). o.bench) same in
-    rw (verdict, group, codes, bench)
+    ap Ok (rw (group, codes, bench))
+one_passed before told (Err a) (Err b) of_a of_b = refl
+one_passed before told (Ok a) (Err b) of_a of_b =
+    let none : 0 ≡ 27 = ap (λ (o : SecondTold). o.told.code) (of_a.tells ∙ sym of_b.tells) in
+    absurd (omega (arith, none))
+one_passed before told (Err a) (Ok b) of_a of_b =
+    let none : 27 ≡ 0 = ap (λ (o : SecondTold). o.told.code) (of_a.tells ∙ sym of_b.tells) in
+    absurd (omega (arith, none))
 
 -- Two answers of `status` that tell the same are the same.
-pub one_status : (a b : Status) → told_status a ≡ told_status b → a ≡ b
+pub one_status : (a b : Result Frame Unsound) → told_status a ≡ told_status b → a ≡ b
 one_status = one_to_one told_status status_back back
   where
-    status_back : StatusTold → Status
-    status_back s = elim s.shown [ [] ↦ Status.Unsound | f ∷ fs ↦ Status.Known f ]
+    status_back : StatusTold → Result Frame Unsound
+    status_back s = elim s.shown [ [] ↦ Err (record {}) | f ∷ fs ↦ Ok f ]
 
-    back : (s : Status) → status_back (told_status s) ≡ s
-    back (Status.Known f) = refl
-    back Status.Unsound = refl
+    back : (s : Result Frame Unsound) → status_back (told_status s) ≡ s
+    back (Ok f) = refl
+    back (Err unsound) = refl
 
 -- Two answers of `free` that tell the same are the same.
-pub one_free : (a b : Free) → told_free a ≡ told_free b → a ≡ b
+pub one_free : (a b : Result ℕ Unsound) → told_free a ≡ told_free b → a ≡ b
 one_free = one_to_one told_free free_back back
   where
-    free_back : FreeTold → Free
-    free_back t = cond (eqb t.code 0) (Free.Known t.free) Free.Unsound
+    free_back : FreeTold → Result ℕ Unsound
+    free_back t = cond (eqb t.code 0) (Ok t.free) (Err (record {}))
 
-    back : (f : Free) → free_back (told_free f) ≡ f
-    back (Free.Known n) = refl
-    back Free.Unsound = refl
+    back : (f : Result ℕ Unsound) → free_back (told_free f) ≡ f
+    back (Ok n) = refl
+    back (Err unsound) = refl
 
 -- Two answers of `housekeeping` that tell the same are the same.
-pub one_housekept : (a b : Housekept) → told_housekeeping a ≡ told_housekeeping b → a ≡ b
+pub one_housekept : (a b : Result Housekeeping Unsound) → told_housekeeping a ≡ told_housekeeping b → a ≡ b
 one_housekept = one_to_one told_housekeeping housekept_back back
   where
-    housekept_back : HousekeepingTold → Housekept
-    housekept_back t = elim t.shown [ [] ↦ Housekept.Unsound | h ∷ hs ↦ Housekept.Known h ]
+    housekept_back : HousekeepingTold → Result Housekeeping Unsound
+    housekept_back t = elim t.shown [ [] ↦ Err (record {}) | h ∷ hs ↦ Ok h ]
 
-    back : (h : Housekept) → housekept_back (told_housekeeping h) ≡ h
-    back (Housekept.Known h) = refl
-    back Housekept.Unsound = refl
+    back : (h : Result Housekeeping Unsound) → housekept_back (told_housekeeping h) ≡ h
+    back (Ok h) = refl
+    back (Err unsound) = refl

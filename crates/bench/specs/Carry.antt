@@ -1,6 +1,6 @@
 -- Carrying out one command: the codes in their order, 26 among them (02, Q-3), the effect of an accepted command, and that a refused one changes no
 -- part of the state.
-use Rattle.std.specs.Prelude.{ℕ, List, ◌∷◌, ◌++◌, Bool, cond, not, ◌&&◌, eqb}
+use Rattle.std.specs.Prelude.{ℕ, List, ◌∷◌, ◌++◌, Bool, cond, not, ◌&&◌, eqb, Result, Ok, Err}
 use Rattle.words.specs.Codes.{Check, ◌when◌, first_of}
 use Rattle.wire.specs.declared.kinds.Kind.{Kind}
 use Rattle.wire.specs.declared.kinds.Command.{Command}
@@ -14,25 +14,24 @@ use Rattle.camera.specs.Camera.{executed_of, dark}
 use Rattle.store.specs.Checks.{code_of, store_checks}
 use Rattle.store.specs.Effects.{applied_of}
 use Rattle.bench.specs.declared.Bench.{Bench}
-use Rattle.bench.specs.declared.Verdict.{Verdict}
-use Rattle.bench.specs.declared.Carried.{Carried}
+use Rattle.bench.specs.declared.Rejection.{Rejection}
 use Rattle.bench.specs.Status.{sound_check}
 
--- 01's number of each verdict, and what was wrong with the number.
-abbrev pub verdict_of : Verdict → Told
-verdict_of Verdict.Accepted = plain 0
-verdict_of Verdict.Unsound = plain 27
-verdict_of (Verdict.Misread refusal) = told_of refusal
-verdict_of Verdict.Dark = plain 26
-verdict_of (Verdict.Denied denial) = plain (code_of denial)
+-- 01's number of each rejection, and what was wrong with the number.
+abbrev pub verdict_of : Rejection → Told
+verdict_of Rejection.Unsound = plain 27
+verdict_of (Rejection.Misread refusal) = told_of refusal
+verdict_of Rejection.Dark = plain 26
+verdict_of (Rejection.Denied denial) = plain (code_of denial)
 
--- What carrying out answers: what is told, and the bench afterwards.
+-- What carrying out answers: what is told, and the bench afterwards, on a refusal the one that was handed in.
 pub record Outcome : Type 0 where
   pub told : Told
   pub bench : Bench
 
-abbrev pub outcome_of : Carried → Outcome
-outcome_of r = record { told = verdict_of r.verdict; bench = r.bench }
+abbrev pub outcome_of : Bench → Result Bench Rejection → Outcome
+outcome_of b (Ok after) = record { told = plain 0; bench = after }
+outcome_of b (Err rejection) = record { told = verdict_of rejection; bench = b }
 
 -- "A flag-1 command is only stored .. A flag-0 command executes at once, also while a macro is open or running."
 abbrev pub camera_after : Camera → Command → Camera

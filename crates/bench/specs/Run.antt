@@ -1,5 +1,5 @@
 -- 01, "Two lists, one report": the kit's list, then the pupil's, a record to each command.
-use Rattle.std.specs.Prelude.{ℕ, ◌+◌, List, [], ◌∷◌, ◌++◌, cond, length, ltb, eqb}
+use Rattle.std.specs.Prelude.{ℕ, ◌+◌, List, [], ◌∷◌, ◌++◌, cond, length, ltb, eqb, Result, Ok, Err}
 use Rattle.words.specs.BigEndian.{written}
 use Rattle.words.specs.Codes.{Check, ◌when◌, first_of}
 use Rattle.wire.specs.declared.judging.Told.{Told}
@@ -10,7 +10,7 @@ use Rattle.report.specs.Record.{record_bytes, report_room}
 use Rattle.report.specs.Latest.{latest_of}
 use Rattle.bench.specs.declared.Bench.{Bench}
 use Rattle.bench.specs.declared.lists.Ran.{Ran}
-use Rattle.bench.specs.declared.lists.Begun.{Begun}
+use Rattle.bench.specs.declared.lists.RunRefusal.{RunRefusal}
 use Rattle.bench.specs.Status.{sound_check}
 use Rattle.bench.specs.Carry.{taken}
 
@@ -77,22 +77,23 @@ run_checks b kit pupil room = 20 when too_long kit pupil ∷ 21 when ltb (length
 unfoldable pub run_code : Bench → List ℕ → List ℕ → List ℕ → ℕ
 run_code b kit pupil room = first_of (run_checks b kit pupil room)
 
--- 01's number of each answer.
-abbrev pub begun_code : Begun → ℕ
-begun_code Begun.Done = 0
-begun_code Begun.ListTooLong = 20
-begun_code Begun.RoomTooSmall = 21
-begun_code Begun.Unsound = 27
+-- 01's number of each refusal.
+abbrev pub begun_code : RunRefusal → ℕ
+begun_code RunRefusal.ListTooLong = 20
+begun_code RunRefusal.RoomTooSmall = 21
+begun_code RunRefusal.Unsound = 27
 
--- What a run answers: the code, the bench afterwards, and the number of records for each sender; counts of zero on a refusal.
+-- What a run answers: the code, the bench afterwards, and the number of records for each sender; on a refusal the bench that was handed in, and counts
+-- of zero.
 pub record RunTold : Type 0 where
   pub code : ℕ
   pub bench : Bench
   pub kit : ℕ
   pub pupil : ℕ
 
-abbrev pub ran_of : Ran → RunTold
-ran_of r = record { code = begun_code r.begun; bench = r.bench; kit = r.kit; pupil = r.pupil }
+abbrev pub ran_of : Bench → Result Ran RunRefusal → RunTold
+ran_of b (Ok r) = record { code = 0; bench = r.bench; kit = r.kit; pupil = r.pupil }
+ran_of b (Err refusal) = record { code = begun_code refusal; bench = b; kit = 0; pupil = 0 }
 
 abbrev pub run_for : ℕ → Bench → List ℕ → List ℕ → RunTold
 run_for code b kit pupil =

@@ -1,16 +1,16 @@
 -- One second of a bench.
-use Rattle.std.specs.Prelude.{ℕ, ◌-◌, List, [], ◌∷◌, ◌++◌, cond, length, take, replicate}
+use Rattle.std.specs.Prelude.{ℕ, ◌-◌, List, [], ◌∷◌, ◌++◌, cond, length, take, replicate, Result, Ok, Err}
 use Rattle.words.specs.Codes.{first_of}
 use Rattle.wire.specs.declared.kinds.Kind.{Kind}
 use Rattle.wire.specs.declared.judging.Told.{Told}
 use Rattle.wire.specs.Judge.{plain}
 use Rattle.camera.specs.declared.Camera.{Camera}
 use Rattle.camera.specs.Camera.{executed_of, camera_second, dark}
+use Rattle.store.specs.declared.Unsound.{Unsound}
 use Rattle.store.specs.Effects.{kinds_in, next_group, after_second}
 use Rattle.bench.specs.declared.Bench.{Bench}
 use Rattle.bench.specs.declared.Passed.{Passed}
 use Rattle.bench.specs.Status.{bench_sound, sound_check}
-use Rattle.bench.specs.Carry.{verdict_of}
 
 -- What a second answers: the code, the bench afterwards, the kinds that were handed over, in order, and the code of each of them.
 pub record SecondTold : Type 0 where
@@ -19,14 +19,19 @@ pub record SecondTold : Type 0 where
   pub handed : List Kind
   pub codes : List ℕ
 
-abbrev pub passed_of : Passed → SecondTold
-passed_of r =
+-- A second of a bench that is not sound: the bench is the one that was handed in, and nothing is handed over.
+abbrev pub stayed_at : Bench → SecondTold
+stayed_at b = record { told = plain 27; bench = b; handed = []; codes = [] }
+
+abbrev pub passed_of : Bench → Result Passed Unsound → SecondTold
+passed_of b (Ok r) =
     record {
-      told = verdict_of r.verdict;
+      told = plain 0;
       bench = r.bench;
       handed = kinds_in r.group;
       codes = take r.group.count r.codes;
     }
+passed_of b (Err unsound) = stayed_at b
 
 -- The codes stand in 64 places, one to an entry of the group; the places behind them hold zeros.
 abbrev pub codes_shown : List ℕ → List ℕ

@@ -1,5 +1,5 @@
 -- The fields that the status frame has of a bench, and when a bench is sound.
-use Rattle.std.specs.Prelude.{ℕ, List, [], ◌∷◌, Bool, cond, not, ◌&&◌}
+use Rattle.std.specs.Prelude.{ℕ, List, [], ◌∷◌, Bool, cond, not, ◌&&◌, Result, Ok, Err}
 use Rattle.words.specs.Codes.{Check, ◌when◌, first_of}
 use Rattle.frame.specs.declared.Frame.{Frame}
 use Rattle.frame.specs.declared.Pace.{Pace}
@@ -7,15 +7,13 @@ use Rattle.frame.specs.Rules.{frame_rule}
 use Rattle.camera.specs.declared.Series.{Series}
 use Rattle.camera.specs.Series.{next_holds}
 use Rattle.camera.specs.Camera.{fresh_camera}
+use Rattle.store.specs.declared.Unsound.{Unsound}
 use Rattle.store.specs.Pool.{free_in, marks_of}
 use Rattle.store.specs.Effects.{fresh_store}
 use Rattle.store.specs.Sound.{store_sound}
 use Rattle.report.specs.Latest.{no_latest}
 use Rattle.housekeeping.specs.declared.Housekeeping.{Housekeeping}
 use Rattle.bench.specs.declared.Bench.{Bench}
-use Rattle.bench.specs.declared.Status.{Status}
-use Rattle.bench.specs.declared.Free.{Free}
-use Rattle.bench.specs.declared.Housekept.{Housekept}
 
 -- "Fresh: all numbers zero, both intervals 1, no macro open, closed or running."
 abbrev pub fresh_bench : Bench
@@ -62,9 +60,9 @@ pub record StatusTold : Type 0 where
   pub code : ℕ
   pub shown : List Frame
 
-abbrev pub told_status : Status → StatusTold
-told_status (Status.Known f) = record { code = 0; shown = f ∷ [] }
-told_status Status.Unsound = record { code = 27; shown = [] }
+abbrev pub told_status : Result Frame Unsound → StatusTold
+told_status (Ok f) = record { code = 0; shown = f ∷ [] }
+told_status (Err unsound) = record { code = 27; shown = [] }
 
 unfoldable pub status_at : Bench → StatusTold
 status_at b =
@@ -75,9 +73,9 @@ pub record FreeTold : Type 0 where
   pub code : ℕ
   pub free : ℕ
 
-abbrev pub told_free : Free → FreeTold
-told_free (Free.Known n) = record { code = 0; free = n }
-told_free Free.Unsound = record { code = 27; free = 0 }
+abbrev pub told_free : Result ℕ Unsound → FreeTold
+told_free (Ok n) = record { code = 0; free = n }
+told_free (Err unsound) = record { code = 27; free = 0 }
 
 unfoldable pub free_at : Bench → FreeTold
 free_at b = record { code = first_of (sound_check b ∷ []); free = cond (bench_sound b) (free_in b.store) 0 }
@@ -92,9 +90,9 @@ pub record HousekeepingTold : Type 0 where
   pub code : ℕ
   pub shown : List Housekeeping
 
-abbrev pub told_housekeeping : Housekept → HousekeepingTold
-told_housekeeping (Housekept.Known h) = record { code = 0; shown = h ∷ [] }
-told_housekeeping Housekept.Unsound = record { code = 27; shown = [] }
+abbrev pub told_housekeeping : Result Housekeeping Unsound → HousekeepingTold
+told_housekeeping (Ok h) = record { code = 0; shown = h ∷ [] }
+told_housekeeping (Err unsound) = record { code = 27; shown = [] }
 
 unfoldable pub housekeeping_at : Bench → HousekeepingTold
 housekeeping_at b =

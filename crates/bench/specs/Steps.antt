@@ -1,33 +1,34 @@
 -- Steps of the implementation; no public promise of the product needs them.
 -- A bench at work on a lent pool; what becomes of a command, from the power and the tally of the macros alone; what a survey finds; what executing a
--- group leaves; and what refused calls hand back.
-use Rattle.std.specs.Prelude.{ℕ, ◌≡◌, List, [], ◌∷◌, ◌++◌, Bool, true, cond, length, eqb}
-use Rattle.words.specs.Codes.{Check, first_of}
+-- group leaves; and a run whose lists were judged, from wherever its commands come.
+use Rattle.std.specs.Prelude.{ℕ, ◌≡◌, ◌≤◌, ◌<◌, List, [], ◌∷◌, ◌++◌, Bool, true, cond, length, ltb, eqb, Option, Some, None, Result, Ok, Err}
+use Rattle.std.proofs.Common.{arith}
+use Rattle.words.specs.BigEndian.{written}
+use Rattle.words.specs.Codes.{Check, ◌when◌, first_of}
+use Rattle.wire.specs.declared.judging.Refusal.{Refusal}
 use Rattle.wire.specs.declared.kinds.Kind.{Kind}
 use Rattle.wire.specs.declared.kinds.Command.{Command}
 use Rattle.wire.specs.Kind.{parts_of}
 use Rattle.wire.specs.Judge.{plain, arg_checks}
-use Rattle.wire.specs.Read.{Answer, answer_for, read_checks, said_parts, said}
+use Rattle.wire.specs.Read.{Answer, answer_of, answer_for, read_of, read_checks, said_parts, said}
 use Rattle.camera.specs.declared.Camera.{Camera}
 use Rattle.store.specs.declared.tally.Tally.{Tally}
 use Rattle.store.specs.declared.tally.Survey.{Survey}
 use Rattle.store.specs.TallySteps.{tally_of, bare_of, store_of, tally_checks, tally_after, pool_after, Tallied}
 use Rattle.walk.specs.Walk.{rests}
-use Rattle.text.specs.Assemble.{bytes_in}
+use Rattle.text.specs.declared.findings.Refusal.{Refusal as TextRefusal}
 use Rattle.report.specs.declared.Latest.{Latest}
+use Rattle.report.specs.Record.{report_room}
 use Rattle.bench.specs.declared.Bench.{Bench}
 use Rattle.bench.specs.declared.Works.{Works}
 use Rattle.bench.specs.declared.Executed.{Executed}
-use Rattle.bench.specs.declared.deciding.Decision.{Decision}
-use Rattle.bench.specs.declared.lists.Ran.{Ran}
-use Rattle.bench.specs.declared.lists.Begun.{Begun}
-use Rattle.bench.specs.declared.lists.typed.TypedBegun.{TypedBegun}
-use Rattle.bench.specs.declared.lists.typed.TypedRan.{TypedRan}
-use Rattle.bench.specs.Status.{bench_sound}
+use Rattle.bench.specs.declared.Rejection.{Rejection}
+use Rattle.bench.specs.declared.lists.RunRefusal.{RunRefusal}
+use Rattle.bench.specs.declared.lists.typed.TypedRefusal.{TypedRefusal}
+use Rattle.bench.specs.Status.{bench_sound, sound_check}
 use Rattle.bench.specs.Carry.{Outcome, verdict_of, camera_after, dark_check}
-use Rattle.bench.specs.Run.{own_list, ended_as}
-use Rattle.bench.specs.Typed.{typed_list}
-use Rattle.bench.specs.Second.{SecondTold, codes_shown, executed_all, handed_codes}
+use Rattle.bench.specs.Run.{Listed, run_rests, kit_part, ended_as, begun_code, RunTold}
+use Rattle.bench.specs.Second.{codes_shown, executed_all, handed_codes}
 
 -- A bench at work, its pool lent beside it: what of a bench is at work, before the lengths of its macros are worked out; the bench that works and pool
 -- are; and what is at work after an accepted command, and as a run ends.
@@ -49,17 +50,10 @@ pub record AtWork (w : Works) (pool : List ℕ) : Type 0 where
   pub sound : bench_sound (bench_of w pool) ≡ true
   pub tallied : Tallied (store_of pool w.tally) w.tally
 
--- `run_pupil`, `run_text`: the bench as the pupil's list, raw or typed, ends a run.
-abbrev pub list_end : Bench → List ℕ → Bench
-list_end b list = ended_as (own_list b 2 list) (length (rests list))
-
-abbrev pub text_end : Bench → List ℕ → Bench
-text_end b text = ended_as (typed_list b text) (length (rests (bytes_in text)))
-
 -- What a decision says: what is told, and the command where the code is 0.
-abbrev pub decision_of : Decision → Answer
-decision_of (Decision.Accepted c) = record { told = plain 0; taken = c ∷ [] }
-decision_of (Decision.Refused verdict) = record { told = verdict_of verdict; taken = [] }
+abbrev pub decision_of : Result Command Rejection → Answer
+decision_of (Ok c) = record { told = plain 0; taken = c ∷ [] }
+decision_of (Err rejection) = record { told = verdict_of rejection; taken = [] }
 
 -- Row 26 and the store's, on a command that was read or judged.
 abbrev pub behind_checks : Bool → Tally → Command → List Check
@@ -100,17 +94,73 @@ carried_by b t decided = record { told = decided.told; bench = bench_by b t deci
 abbrev pub surveyed : Bench → Survey
 surveyed b = record { sound = bench_sound b; tally = tally_of b.store }
 
--- A second of a bench that is not sound.
-abbrev pub stayed_at : Bench → SecondTold
-stayed_at b = record { told = plain 27; bench = b; handed = []; codes = [] }
-
 -- What executing a group leaves: the camera, and the codes in their places.
 abbrev pub executed_with : Camera → List Kind → Executed
 executed_with camera ks = record { camera = executed_all camera ks; codes = codes_shown (handed_codes camera ks) }
 
--- A refused run: the bench as it was, and counts of zero.
-abbrev pub refused_with : Bench → Begun → Ran
-refused_with b begun = record { bench = b; begun = begun; kit = 0; pupil = 0 }
+-- No refusal of a run has code 0.
+pub begun_some : (refusal : RunRefusal) → 0 < begun_code refusal
+begun_some RunRefusal.ListTooLong = omega arith
+begun_some RunRefusal.RoomTooSmall = omega arith
+begun_some RunRefusal.Unsound = omega arith
 
-abbrev pub refused_typed : Bench → TypedBegun → TypedRan
-refused_typed b begun = record { bench = b; begun = begun; kit = 0; pupil = 0 }
+-- A source of commands gives the next one: the commands that were left, each as it finds its list, and the numbers of their records, begin with it; what
+-- it was read as is what the reader says of it.
+pub record GivesOne (commands : List (List ℕ)) (numbers : List ℕ) (number : ℕ) (read : Result Command Refusal) (later : List (List ℕ))
+    (later_numbers : List ℕ) : Type 0 where
+  pub rest : List ℕ
+  pub commands_are : commands ≡ rest ∷ later
+  pub numbers_are : numbers ≡ number ∷ later_numbers
+  pub reads : answer_of read ≡ read_of rest
+
+-- The command that a line says, if it says one.
+abbrev pub said_by : Option Command → List Command
+said_by None = []
+said_by (Some c) = c ∷ []
+
+-- It gives none where none is left.
+abbrev pub Gives : List (List ℕ) → List ℕ → Option (ℕ × Result Command Refusal) → List (List ℕ) → List ℕ → Type 0
+Gives commands numbers None later later_numbers = commands ≡ []
+Gives commands numbers (Some next) later later_numbers = GivesOne commands numbers next.0 next.1 later later_numbers
+
+-- So many commands as a list can have, each with a number.
+abbrev pub Even : List ℕ → List (List ℕ) → Type 0
+Even numbers commands = (length numbers ≡ length commands) × (length commands ≤ 512)
+
+-- A run whose lists were judged: 21, then 27; then the kit's list and the pupil's commands with these numbers, behind it.
+abbrev pub judged_code : Bench → List ℕ → ℕ
+judged_code b room = first_of (21 when ltb (length room) report_room ∷ sound_check b ∷ [])
+
+abbrev pub pupil_by : Bench → List ℕ → List ℕ → List (List ℕ) → Listed
+pupil_by b kit numbers rs = run_rests (kit_part b kit).bench 2 numbers rs
+
+abbrev pub ended_by : Bench → List ℕ → List ℕ → List (List ℕ) → Bench
+ended_by b kit numbers rs = ended_as (pupil_by b kit numbers rs) (length rs)
+
+abbrev pub report_by : Bench → List ℕ → List ℕ → List (List ℕ) → List ℕ
+report_by b kit numbers rs = (kit_part b kit).records ++ (pupil_by b kit numbers rs).records
+
+abbrev pub judged_for : ℕ → Bench → List ℕ → List ℕ → List (List ℕ) → RunTold
+judged_for code b kit numbers rs =
+    record {
+      code = code;
+      bench = cond (eqb code 0) (ended_by b kit numbers rs) b;
+      kit = cond (eqb code 0) (length (rests kit)) 0;
+      pupil = cond (eqb code 0) (length rs) 0;
+    }
+
+abbrev pub judged_run : Bench → List ℕ → List ℕ → List (List ℕ) → List ℕ → RunTold
+judged_run b kit numbers rs room = judged_for (judged_code b room) b kit numbers rs
+
+abbrev pub judged_room : Bench → List ℕ → List ℕ → List (List ℕ) → List ℕ → List ℕ
+judged_room b kit numbers rs room = cond (eqb (judged_code b room) 0) (written (report_by b kit numbers rs) room) room
+
+-- The refusal of a typed run, from that of its text and from that of a run.
+abbrev pub of_text : TextRefusal → TypedRefusal
+of_text TextRefusal.TooLong = TypedRefusal.TooLong
+of_text (TextRefusal.BadLine number fault) = TypedRefusal.BadLine number fault
+
+abbrev pub of_run : RunRefusal → TypedRefusal
+of_run RunRefusal.ListTooLong = TypedRefusal.TooLong
+of_run RunRefusal.RoomTooSmall = TypedRefusal.RoomTooSmall
+of_run RunRefusal.Unsound = TypedRefusal.Unsound

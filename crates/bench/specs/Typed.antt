@@ -1,6 +1,6 @@
 -- 02, Q-1: the run of the kit's raw list and then of a list that the pupil typed. It is the run of two lists but for the numbers of the pupil's
 -- records, which are the text's own, and for what is found wrong with a text.
-use Rattle.std.specs.Prelude.{ℕ, List, [], ◌∷◌, cond, ◌||◌, length, ltb, eqb}
+use Rattle.std.specs.Prelude.{ℕ, List, [], ◌∷◌, cond, ◌||◌, length, ltb, eqb, Result, Ok, Err}
 use Rattle.words.specs.BigEndian.{written}
 use Rattle.words.specs.Codes.{◌when◌}
 use Rattle.wire.specs.Judge.{plain}
@@ -10,8 +10,8 @@ use Rattle.text.specs.declared.findings.Finding.{Finding}
 use Rattle.text.specs.Findings.{finding, nothing, whole, first_found, told_fault}
 use Rattle.text.specs.Assemble.{line_numbers, bytes_in, bad_line}
 use Rattle.bench.specs.declared.Bench.{Bench}
-use Rattle.bench.specs.declared.lists.typed.TypedBegun.{TypedBegun}
-use Rattle.bench.specs.declared.lists.typed.TypedRan.{TypedRan}
+use Rattle.bench.specs.declared.lists.Ran.{Ran}
+use Rattle.bench.specs.declared.lists.typed.TypedRefusal.{TypedRefusal}
 use Rattle.bench.specs.Status.{sound_check}
 use Rattle.bench.specs.Run.{Listed, run_list, ended_with, report_with}
 
@@ -40,23 +40,28 @@ typed_end b kit text = ended_with b kit (line_numbers text) (bytes_in text)
 abbrev pub typed_report : Bench → List ℕ → List ℕ → List ℕ
 typed_report b kit text = report_with b kit (line_numbers text) (bytes_in text)
 
--- What is told of each answer, and its line.
-abbrev pub begun_finding : TypedBegun → Finding
-begun_finding TypedBegun.Done = nothing
-begun_finding TypedBegun.TooLong = finding (plain 20) 0
-begun_finding (TypedBegun.BadLine number fault) = finding (told_fault fault) number
-begun_finding TypedBegun.RoomTooSmall = finding (plain 21) 0
-begun_finding TypedBegun.Unsound = finding (plain 27) 0
+-- What is told of each refusal, and its line; and of an answer.
+abbrev pub begun_finding : TypedRefusal → Finding
+begun_finding TypedRefusal.TooLong = finding (plain 20) 0
+begun_finding (TypedRefusal.BadLine number fault) = finding (told_fault fault) number
+begun_finding TypedRefusal.RoomTooSmall = finding (plain 21) 0
+begun_finding TypedRefusal.Unsound = finding (plain 27) 0
 
--- What such a run answers: what was found, the bench afterwards, and the number of records for each sender; counts of zero on a refusal.
+abbrev pub ran_finding : Result Ran TypedRefusal → Finding
+ran_finding (Ok r) = nothing
+ran_finding (Err refusal) = begun_finding refusal
+
+-- What such a run answers: what was found, the bench afterwards, and the number of records for each sender; on a refusal the bench that was handed in,
+-- and counts of zero.
 pub record TypedTold : Type 0 where
   pub found : Finding
   pub bench : Bench
   pub kit : ℕ
   pub pupil : ℕ
 
-abbrev pub typed_ran_of : TypedRan → TypedTold
-typed_ran_of r = record { found = begun_finding r.begun; bench = r.bench; kit = r.kit; pupil = r.pupil }
+abbrev pub typed_ran_of : Bench → Result Ran TypedRefusal → TypedTold
+typed_ran_of b (Ok r) = record { found = nothing; bench = r.bench; kit = r.kit; pupil = r.pupil }
+typed_ran_of b (Err refusal) = record { found = begun_finding refusal; bench = b; kit = 0; pupil = 0 }
 
 abbrev pub typed_for : Finding → Bench → List ℕ → List ℕ → TypedTold
 typed_for found b kit text =

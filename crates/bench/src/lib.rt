@@ -1,36 +1,41 @@
-// The bench: camera and macro store as one state that goes in by value and comes back. Every call judges the state that it is handed (27).
-// A refused command hands back the bench as it came. What a crate above the bench has to name from below it, the bench hands on: commands as they are
-// read and judged, what is told of them, records, groups (`pub use`; for the meanings specs/Exports, for the laws proofs/Exports).
+//! The bench: camera and macro store as one state that goes in by value and comes back. Every call judges the state that it is handed (27).
+//! On a refusal the bench is the one that the caller handed in. What a crate above the bench has to name from below it, the bench hands on: commands
+//! as they are read and judged, what is told of them, records, groups (`pub use`; for the meanings specs/Exports, for the laws proofs/Exports).
 #![tactic(auto)]
 
-ghost use Rattle.std.specs.Prelude.{◌≡◌, []};
+ghost use Rattle.std.specs.Prelude.{◌≡◌, [], IfOk, is_ok};
 ghost use Rattle.camera.specs.Camera.{camera_second};
 ghost use Rattle.store.specs.Effects.{group_of, kinds_in};
 ghost use Rattle.store.specs.TallySteps.{pool_after};
+ghost use Rattle.store.specs.TallySteps.{tally_of};
+ghost use Rattle.bench.specs.declared.Rejection.TheVariants.{Unsound, Misread, Denied};
 ghost use Rattle.bench.specs.Status.{fresh_bench, pace_of, status_of, rules_hold, bench_sound, told_status, status_at, told_free, free_at};
 ghost use Rattle.bench.specs.Status.{told_housekeeping, housekeeping_at};
 ghost use Rattle.bench.specs.Carry.{verdict_of, outcome_of, camera_after, carry_out, carry_out_bytes};
 ghost use Rattle.bench.specs.Second.{passed_of, codes_shown, second_at};
-ghost use Rattle.bench.specs.Steps.{works_of, works_after, bench_of, decision_of, effect_by, carried_by, surveyed, stayed_at, executed_with};
+ghost use Rattle.bench.specs.Steps.{works_of, works_after, bench_of, effect_by, executed_with};
 
 mod deciding;
 mod lists;
 
 use camera::{Camera, Series};
-use deciding::{Decision, decide, decide_bytes};
+use deciding::{decide, decide_bytes};
 use frame::{Frame, Pace};
 use housekeeping::Housekeeping;
-pub use lists::{Begun, Ran, TypedBegun, TypedRan, code_of, finding_of};
+pub use lists::{Ran, RunRefusal, TypedRefusal, finding_of};
 use report::Latest;
 pub use report::put_record;
-pub use store::Group;
-use store::{Denial, Store, Survey, Tally};
-pub use wire::{Command, Kind, Refusal, Told, judge, plain, read_command, span};
+pub use store::{Denial, Group, Unsound};
+use store::{Store, Tally};
+pub use wire::{
+    Command, Kind, Refusal, Stray, Tell, Told, judge, plain, read_command, span, told_of,
+};
+pub use words::{Code, code_of};
 
 // The code of a picture that is asked for with the power off.
 const DARK: u8 = 26;
 
-// The state: the camera, the macro store, and the numbers of the latest run.
+/// The state: the camera, the macro store, and the numbers of the latest run.
 #[derive(Clone, Copy)]
 pub struct Bench {
     pub camera: Camera,
@@ -38,50 +43,60 @@ pub struct Bench {
     pub latest: Latest,
 }
 
-#[derive(Clone, Copy)]
-pub enum Verdict {
-    Accepted,
+/// Why a command is refused: 27 for a bench that is not sound, then a code of the wire (1 to 10), 26 in the dark, or one of the macro store (11 to 19
+/// and 25). Rules: "Which call tries what".
+#[derive(Clone, Copy, Debug, PartialEq, Eq)]
+pub enum Rejection {
     Unsound,
     Misread(Refusal),
     Dark,
     Denied(Denial),
 }
 
-// A command carried out: the bench afterwards, and the verdict.
-#[derive(Clone, Copy)]
-pub struct Carried {
-    pub bench: Bench,
-    pub verdict: Verdict,
+impl From<Unsound> for Rejection {
+    ghost from_gives = { λ _ rejection. rejection ≡ Unsound };
+
+    fn from(_: Unsound) -> Rejection {
+        Rejection::Unsound
+    }
 }
 
-// A second passed: the bench afterwards, the verdict, the group of entries that was handed over, and the code of each: 26 for one that had no effect,
-// 0 for every other. Zeros stand behind them. (The codes stand before the group, for behind it the compiler copies the pool once more.)
+impl From<Refusal> for Rejection {
+    ghost from_gives = { λ refusal rejection. rejection ≡ Misread refusal };
+
+    fn from(misread: Refusal) -> Rejection {
+        Rejection::Misread(misread)
+    }
+}
+
+impl From<Denial> for Rejection {
+    ghost from_gives = { λ denial rejection. rejection ≡ Denied denial };
+
+    fn from(denial: Denial) -> Rejection {
+        Rejection::Denied(denial)
+    }
+}
+
+impl Tell for Rejection {
+    ghost told = { verdict_of };
+
+    fn told(&self) -> Told {
+        match self {
+            Rejection::Unsound => wire::plain(27),
+            Rejection::Misread(refusal) => refusal.told(),
+            Rejection::Dark => wire::plain(DARK),
+            Rejection::Denied(denial) => wire::plain(denial.code()),
+        }
+    }
+}
+
+/// A second passed: the bench afterwards, the code of each entry that was handed over (26 for one that had no effect, 0 for every other, and zeros
+/// behind them), and the group of these entries. (The codes stand before the group, for behind it the compiler copies the pool once more.)
 #[derive(Clone, Copy)]
 pub struct Passed {
     pub bench: Bench,
-    pub verdict: Verdict,
     pub codes: [u8; 64],
     pub group: Group,
-}
-
-#[derive(Clone, Copy)]
-pub enum Status {
-    Known(Frame),
-    Unsound,
-}
-
-// How many macro entries are free.
-#[derive(Clone, Copy)]
-pub enum Free {
-    Known(u8),
-    Unsound,
-}
-
-// The numbers of the housekeeping frame.
-#[derive(Clone, Copy)]
-pub enum Housekept {
-    Known(Housekeeping),
-    Unsound,
 }
 
 // A bench at work without the pool of its macros' entries, which is lent beside it: the camera, the tally of the macros, and the numbers of the
@@ -98,19 +113,6 @@ struct Works {
 struct Executed {
     camera: Camera,
     codes: [u8; 64],
-}
-
-// The code of a verdict, and what was wrong with the number.
-pub fn told_of(verdict: Verdict) -> Told
-    ensures { result ≡ verdict_of verdict }
-{
-    match verdict {
-        Verdict::Accepted => wire::plain(0),
-        Verdict::Unsound => wire::plain(27),
-        Verdict::Misread(refusal) => wire::told_of(refusal),
-        Verdict::Dark => wire::plain(DARK),
-        Verdict::Denied(denial) => wire::plain(store::code_of(denial)),
-    }
 }
 
 fn pace_of(series: Series) -> Pace
@@ -130,8 +132,7 @@ fn camera_after(camera: Camera, command: Command) -> Camera
     if command.flag {
         camera
     } else {
-        let kind = command.kind;
-        camera.executed(kind)
+        camera.executed(command.kind)
     }
 }
 
@@ -140,12 +141,10 @@ fn take_effect(works: Works, pool: &mut [u32; 576], command: Command) -> Works
     ensures value { result ≡ works_after works command }
     ensures pool_after { pool.new ≡ pool_after pool.old works.tally command }
 {
-    let camera = works.camera;
-    let tally = works.tally;
-    store::keep(pool, tally, command);
+    store::keep(pool, works.tally, command);
     Works {
-        camera: camera_after(camera, command),
-        tally: tally.applied(command),
+        camera: camera_after(works.camera, command),
+        tally: works.tally.applied(command),
         ..works
     }
 }
@@ -154,14 +153,10 @@ fn take_effect(works: Works, pool: &mut [u32; 576], command: Command) -> Works
 fn bench_of(works: Works, pool: [u32; 576]) -> Bench
     ensures { result ≡ bench_of works pool }
 {
-    let camera = works.camera;
-    let tally = works.tally;
-    let latest = works.latest;
-    let store = Store::of_parts(pool, tally);
     Bench {
-        camera,
-        store,
-        latest,
+        camera: works.camera,
+        store: Store::of_parts(pool, works.tally),
+        latest: works.latest,
     }
 }
 
@@ -171,14 +166,9 @@ fn fields(works: Works) -> Frame
 {
     let camera = works.camera;
     let tally = works.tally;
-    let image = camera.image;
-    let track = camera.track;
-    let image = pace_of(image);
-    let track = pace_of(track);
-    let closed = tally.closed;
     Frame {
-        image,
-        track,
+        image: pace_of(camera.image),
+        track: pace_of(camera.track),
         x: camera.x,
         y: camera.y,
         xgoal: camera.xgoal,
@@ -191,7 +181,7 @@ fn fields(works: Works) -> Frame
         running: tally.running,
         opened: tally.opened,
         left: tally.left,
-        closed: store::marks_of(closed),
+        closed: store::marks_of(tally.closed),
     }
 }
 
@@ -199,62 +189,23 @@ fn fields(works: Works) -> Frame
 fn obeys(works: Works) -> bool
     ensures { result ≡ rules_hold (bench_of works []) }
 {
-    if !frame::obeys(fields(works)) {
-        return false;
-    }
-    let camera = works.camera;
-    let image = camera.image;
-    if !image.is_paced() {
-        return false;
-    }
-    let track = camera.track;
-    track.is_paced()
-}
-
-// Whether the bench at work on this pool is sound, and the tally of its macros.
-fn survey(works: Works, pool: &[u32; 576]) -> Survey
-    ensures { result ≡ surveyed (bench_of works pool.now) }
-{
-    let survey = store::survey(pool, works.tally);
-    if obeys(works) {
-        survey
-    } else {
-        Survey {
-            sound: false,
-            ..survey
-        }
-    }
-}
-
-// A second that a bench does not pass, for it is not sound.
-fn stayed(bench: Bench) -> Passed
-    ensures { (passed_of result ≡ stayed_at bench) × (result.group ≡ group_of []) × (result.codes ≡ codes_shown []) }
-{
-    Passed {
-        bench,
-        verdict: Verdict::Unsound,
-        codes: [0; 64],
-        group: Group::none(),
-    }
+    frame::obeys(fields(works)) && works.camera.image.is_paced() && works.camera.track.is_paced()
 }
 
 // What a second handed over is executed, each entry before the next; one that is dark as its turn comes has no effect, and its code says so.
 fn executed_all(camera: Camera, group: Group) -> Executed
     ensures { result ≡ executed_with camera (kinds_in group) }
 {
-    let words = group.words;
-    let size = store::group_size(group.count);
     let mut next = camera;
     let mut codes: [u8; 64] = [0; 64];
-    let mut i: usize = 0;
-    while i < size {
-        let kind = store::handed_at(&words, i);
+    let size = store::group_size(group.count);
+    for i in 0..size {
+        let kind = store::handed_at(&group.words, i);
         if camera::is_dark(next.power, kind) {
             codes[i] = DARK;
         } else {
             next = next.executed(kind);
         }
-        i += 1;
     }
     Executed {
         camera: next,
@@ -270,185 +221,162 @@ fn camera_second(camera: Camera, group: Group) -> Executed
 }
 
 impl Bench {
+    /// A fresh bench. Rules: "Fresh".
     pub fn fresh() -> Bench
         ensures { result ≡ fresh_bench }
     {
-        let camera = Camera::fresh();
-        let store = Store::fresh();
-        let latest = Latest::none();
         Bench {
-            camera,
-            store,
-            latest,
+            camera: Camera::fresh(),
+            store: Store::fresh(),
+            latest: Latest::none(),
         }
     }
 
     // The bench at work, without its pool; the lengths of its macros are not worked out.
-    fn works(self) -> Works
-        ensures { result ≡ works_of self }
+    fn works(&self) -> Works
+        ensures { result ≡ works_of self.now }
     {
-        let camera = self.camera;
-        let store = self.store;
-        let tally = store.bare();
-        let latest = self.latest;
         Works {
-            camera,
-            tally,
-            latest,
+            camera: self.camera,
+            tally: self.store.bare(),
+            latest: self.latest,
         }
     }
 
-    // Is this state sound: do the fields of the status frame, both series and the macros obey their rules?
+    // The tally of the macros, where the state is sound.
+    fn tally(&self) -> Result<Tally, Unsound>
+        ensures sound { is_ok result ≡ bench_sound self.now }
+        ensures tally_value { IfOk result (λ tally. tally ≡ tally_of self.now.store) }
+    {
+        let works = self.works();
+        let survey = store::survey(&self.store.pool, works.tally);
+        if survey.sound && obeys(works) {
+            Ok(survey.tally)
+        } else {
+            Err(Unsound)
+        }
+    }
+
+    /// Is this state sound: do the fields of the status frame, both series and the macros obey their rules? Rules: "Sound states".
     pub fn is_sound(self) -> bool
         ensures { result ≡ bench_sound self }
     {
-        let survey = survey(self.works(), &self.store.pool);
-        survey.sound
+        self.tally().is_ok()
     }
 
     // An accepted command takes effect, by the tally of the macros.
     fn applied(self, tally: Tally, command: Command) -> Bench
         ensures { result ≡ effect_by self tally command }
     {
-        let camera = self.camera;
-        let store = self.store;
-        let latest = self.latest;
-        let mut pool = store.pool;
+        let mut pool = self.store.pool;
         let works = Works {
-            camera,
+            camera: self.camera,
             tally,
-            latest,
+            latest: self.latest,
         };
         let works = take_effect(works, &mut pool, command);
         bench_of(works, pool)
     }
 
-    // What was decided is carried out, by the tally of the macros.
-    fn carried(self, tally: Tally, decision: Decision) -> Carried
-        ensures { outcome_of result ≡ carried_by self tally (decision_of decision) }
+    /// The bench after a decoded command. A refused command changes nothing.
+    ///
+    /// # Errors
+    ///
+    /// 27, then 8 to 10, 26, 11 to 15, 25 and 16 to 19. Rules: "Which call tries what".
+    pub fn carry_out(self, command: Command) -> Result<Bench, Rejection>
+        ensures { outcome_of self result ≡ carry_out self command }
     {
-        match decision {
-            Decision::Refused(verdict) => Carried {
-                bench: self,
-                verdict,
-            },
-            Decision::Accepted(command) => {
-                let bench = self.applied(tally, command);
-                Carried {
-                    bench,
-                    verdict: Verdict::Accepted,
-                }
-            }
-        }
+        let tally = self.tally()?;
+        let command = decide(self.camera.power, tally, command)?;
+        Ok(self.applied(tally, command))
     }
 
-    // A decoded command: 27, then 8 to 10, 26, 11 to 19 and 25.
-    pub fn carry_out(self, command: Command) -> Carried
-        ensures { outcome_of result ≡ carry_out self command }
+    /// The bench after the command at the front of these bytes. A refused command changes nothing.
+    ///
+    /// # Errors
+    ///
+    /// 27, then 1 to 10, 26, 11 to 15, 25 and 16 to 19. Rules: "Which call tries what".
+    pub fn carry_out_bytes(self, bytes: &[u8]) -> Result<Bench, Rejection>
+        ensures { outcome_of self result ≡ carry_out_bytes self bytes.now }
     {
-        let survey = survey(self.works(), &self.store.pool);
-        if !survey.sound {
-            return Carried {
-                bench: self,
-                verdict: Verdict::Unsound,
-            };
-        }
-        let tally = survey.tally;
-        self.carried(tally, decide(self.camera.power, tally, command))
+        let tally = self.tally()?;
+        let command = decide_bytes(self.camera.power, tally, bytes)?;
+        Ok(self.applied(tally, command))
     }
 
-    // The command at the front of these bytes: 27, then 1 to 10, 26, 11 to 19 and 25.
-    pub fn carry_out_bytes(self, bytes: &[u8]) -> Carried
-        ensures { outcome_of result ≡ carry_out_bytes self bytes.now }
-    {
-        let survey = survey(self.works(), &self.store.pool);
-        if !survey.sound {
-            return Carried {
-                bench: self,
-                verdict: Verdict::Unsound,
-            };
-        }
-        let tally = survey.tally;
-        self.carried(tally, decide_bytes(self.camera.power, tally, bytes))
-    }
-
-    // A second passes: 27; else the two series, then the running macro's next group.
-    pub fn second(self) -> Passed
-        ensures result_value { passed_of result ≡ second_at self }
-        ensures group_value { result.group ≡ group_of (second_at self).handed }
-        ensures codes_value { result.codes ≡ codes_shown (second_at self).codes }
+    /// A second passes: the two series, then the running macro's next group. Rules: "One second".
+    ///
+    /// # Errors
+    ///
+    /// 27 where the bench is not sound.
+    pub fn second(self) -> Result<Passed, Unsound>
+        ensures result_value { passed_of self result ≡ second_at self }
+        ensures group_value { IfOk result (λ passed. passed.group ≡ group_of (second_at self).handed) }
+        ensures codes_value { IfOk result (λ passed. passed.codes ≡ codes_shown (second_at self).codes) }
     {
         let works = self.works();
         if !obeys(works) {
-            return stayed(self);
+            return Err(Unsound);
         }
-        let step = store::second(&self.store.pool, works.tally);
-        if !step.sound {
-            return stayed(self);
-        }
-        let group = step.group;
-        let camera = self.camera;
-        let executed = camera_second(camera, group);
-        let camera = executed.camera;
-        let codes = executed.codes;
-        let store = self.store;
+        let step = store::second(&self.store.pool, works.tally)?;
+        let executed = camera_second(self.camera, step.group);
         let store = Store {
             running: step.running,
             left: step.left,
-            ..store
+            ..self.store
         };
         let bench = Bench {
-            camera,
+            camera: executed.camera,
             store,
             ..self
         };
-        Passed {
+        // The language asks for a variable where a field that is an array goes into a literal.
+        let codes = executed.codes;
+        Ok(Passed {
             bench,
-            verdict: Verdict::Accepted,
             codes,
-            group,
-        }
+            group: step.group,
+        })
     }
 
-    // The status frame: 27, else its fields.
-    pub fn status(self) -> Status
+    /// The status frame.
+    ///
+    /// # Errors
+    ///
+    /// 27 where the bench is not sound.
+    pub fn status(self) -> Result<Frame, Unsound>
         ensures { told_status result ≡ status_at self }
     {
-        let works = self.works();
-        let survey = survey(works, &self.store.pool);
-        if survey.sound {
-            Status::Known(fields(works))
-        } else {
-            Status::Unsound
-        }
+        self.tally()?;
+        Ok(fields(self.works()))
     }
 
-    // The macro entries that are free: 27, else 192 less those of the open and the closed macros.
-    pub fn free(self) -> Free
+    /// How many macro entries are free: 192 less those of the open and the closed macros.
+    ///
+    /// # Errors
+    ///
+    /// 27 where the bench is not sound.
+    pub fn free(self) -> Result<u8, Unsound>
         ensures { told_free result ≡ free_at self }
     {
-        let survey = survey(self.works(), &self.store.pool);
-        if survey.sound {
-            let tally = survey.tally;
-            Free::Known(tally.free())
-        } else {
-            Free::Unsound
-        }
+        let tally = self.tally()?;
+        Ok(tally.free())
     }
 
-    // The numbers of the housekeeping frame: 27, else those of the latest run and the macro entries that are free.
-    pub fn housekeeping(self) -> Housekept
+    /// The numbers of the housekeeping frame: those of the latest run, and the macro entries that are free.
+    ///
+    /// # Errors
+    ///
+    /// 27 where the bench is not sound.
+    pub fn housekeeping(self) -> Result<Housekeeping, Unsound>
         ensures { told_housekeeping result ≡ housekeeping_at self }
     {
-        let latest = self.latest;
-        match self.free() {
-            Free::Unsound => Housekept::Unsound,
-            Free::Known(free) => Housekept::Known(Housekeeping {
-                received: latest.received,
-                failed: latest.failed,
-                code: latest.code,
-                free,
-            }),
-        }
+        let free = self.free()?;
+        Ok(Housekeeping {
+            received: self.latest.received,
+            failed: self.latest.failed,
+            code: self.latest.code,
+            free,
+        })
     }
 }

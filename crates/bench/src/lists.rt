@@ -1,45 +1,57 @@
-// The run of two lists, the kit's and then the pupil's, with a record of each command in a lent room. The state is judged once a run.
-ghost use Rattle.std.specs.Prelude.{◌*◌, ◌≤◌, ◌≡◌, length};
+//! A run: the kit's list and then the pupil's, raw or typed, with a record of each command in a lent room. The state is judged once a run.
+ghost use Rattle.std.specs.Prelude.{◌*◌, ◌<◌, ◌≤◌, ◌≡◌, length};
+ghost use Rattle.std.proofs.Common.{rules};
 ghost use Rattle.words.specs.BigEndian.{written};
-ghost use Rattle.walk.specs.Walk.{rests};
 ghost use Rattle.report.specs.Record.{record_length};
-ghost use Rattle.report.specs.Latest.{latest_of};
-ghost use Rattle.bench.specs.Run.{begun_code, own_list, ran_of, run_of, room_after};
-ghost use Rattle.bench.specs.Steps.{bench_of, works_noting, list_end, AtWork, refused_with};
+ghost use Rattle.bench.specs.declared.lists.RunRefusal.TheVariants.{Unsound};
+ghost use Rattle.bench.specs.Run.{begun_code, ended_as, ran_of, run_of, run_rests, room_after};
+ghost use Rattle.bench.specs.Steps.{bench_of, AtWork, Even, begun_some, judged_run, judged_room};
 
+mod sources;
 mod typed;
 
-use super::deciding::{Decision, decide_bytes, put_decided};
-use super::{Bench, Works, bench_of, survey, take_effect};
-pub use typed::{TypedBegun, TypedRan, finding_of};
+use super::deciding::{decide_read, put_decided};
+use super::{Bench, Unsound, Works, bench_of, take_effect};
+use sources::{Raw, Source};
+pub use typed::{TypedRefusal, finding_of};
+use words::Code;
 
-#[derive(Clone, Copy)]
-pub enum Begun {
-    Done,
+/// Why a run of two lists is refused. Rules: "Which call tries what".
+#[derive(Clone, Copy, Debug, PartialEq, Eq)]
+pub enum RunRefusal {
     ListTooLong,
     RoomTooSmall,
     Unsound,
 }
 
-// A run: the bench afterwards, whether it was refused, and the number of records for each sender.
+impl From<Unsound> for RunRefusal {
+    ghost from_gives = { λ _ refusal. refusal ≡ Unsound };
+
+    fn from(_: Unsound) -> RunRefusal {
+        RunRefusal::Unsound
+    }
+}
+
+impl Code for RunRefusal {
+    ghost code = { begun_code };
+
+    ghost refuses = { begun_some };
+
+    fn code(&self) -> u8 {
+        match self {
+            RunRefusal::ListTooLong => 20,
+            RunRefusal::RoomTooSmall => 21,
+            RunRefusal::Unsound => 27,
+        }
+    }
+}
+
+/// A run that was carried out: the bench afterwards, and the number of records for each sender.
 #[derive(Clone, Copy)]
 pub struct Ran {
     pub bench: Bench,
-    pub begun: Begun,
     pub kit: u32,
     pub pupil: u32,
-}
-
-// The code of a run's answer.
-pub fn code_of(begun: Begun) -> u8
-    ensures { result ≡ begun_code begun }
-{
-    match begun {
-        Begun::Done => 0,
-        Begun::ListTooLong => 20,
-        Begun::RoomTooSmall => 21,
-        Begun::Unsound => 27,
-    }
 }
 
 // One list carried out: what is at work afterwards, and how many commands the list had.
@@ -51,101 +63,109 @@ struct Part {
 
 // Carries a list out on a lent pool and puts the records of its commands, one after another, into the front of a room. Each command is judged by the
 // tally of the macros; the pool stays where it is, and an accepted append is put into it.
-fn run_list(works: Works, pool: &mut [u32; 576], list: &[u8], sender: u8, room: &mut [u8]) -> Part
-    requires list_len_bound { (length list.now ≤ 4096) × (length (rests list.now) * record_length ≤ length room.old) }
+fn run_list<S: Source + Drop>(
+    works: Works,
+    pool: &mut [u32; 576],
+    list: S,
+    sender: u8,
+    room: &mut [u8],
+) -> Part
+    requires even { Even (S.numbers list) (S.commands list) }
+    requires fits { length (S.commands list) * record_length ≤ length room.old }
     requires at_work { AtWork works pool.old }
-    ensures pool_after { bench_of result.works pool.new ≡ (own_list (bench_of works pool.old) sender list.now).bench }
-    ensures count_value { (result.count ≡ length (rests list.now)) × AtWork result.works pool.new }
-    ensures room_after { room.new ≡ written (own_list (bench_of works pool.old) sender list.now).records room.old }
+    ensures pool_after { bench_of result.works pool.new ≡ (run_rests (bench_of works pool.old) sender (S.numbers list) (S.commands list)).bench }
+    ensures count_value { (result.count ≡ length (S.commands list)) × AtWork result.works pool.new }
+    ensures room_after { room.new ≡ written (run_rests (bench_of works pool.old) sender (S.numbers list) (S.commands list)).records room.old }
 {
     let mut works = works;
-    let mut at: usize = 0;
+    let mut list = list;
     let mut count: u32 = 0;
-    while at < list.len() {
-        let rest = &list[at..];
-        let decision = decide_bytes(works.camera.power, works.tally, rest);
-        let end = (count as usize) * report::RECORD;
+    while let Some((number, read)) = list.next() {
+        let decision = decide_read(works.camera.power, works.tally, read);
+        let end = count as usize * report::RECORD;
         count += 1;
-        put_decided(&mut room[end..], sender, decision, count);
-        at += wire::span(rest);
-        match decision {
-            Decision::Refused(_) => continue,
-            Decision::Accepted(command) => {
-                works = take_effect(works, pool, command);
-            }
+        put_decided(&mut room[end..], sender, decision, number);
+        if let Ok(command) = decision {
+            works = take_effect(works, pool, command);
         }
     }
     Part { works, count }
 }
 
-// The pupil's list was carried out: the numbers of the latest run are what its records say.
-fn ended(part: Part, records: &[u8]) -> Part
-    ensures { (result.works ≡ works_noting part.works (latest_of records.now part.count)) × (result.count ≡ part.count) }
-{
-    let latest = report::latest_of(records, part.count);
-    let count = part.count;
-    let works = part.works;
-    let works = Works { latest, ..works };
-    Part { works, count }
-}
-
-// The pupil's list, with which a run ends.
-fn run_pupil(works: Works, pool: &mut [u32; 576], list: &[u8], room: &mut [u8]) -> Part
-    requires list_len_bound { (length list.now ≤ 4096) × (length (rests list.now) * record_length ≤ length room.old) }
+// The pupil's list, with which a run ends: the numbers of the latest run are what its records say.
+fn run_pupil<S: Source + Drop>(
+    works: Works,
+    pool: &mut [u32; 576],
+    list: S,
+    room: &mut [u8],
+) -> Part
+    requires even { Even (S.numbers list) (S.commands list) }
+    requires fits { length (S.commands list) * record_length ≤ length room.old }
     requires at_work { AtWork works pool.old }
-    ensures pool_after { bench_of result.works pool.new ≡ list_end (bench_of works pool.old) list.now }
-    ensures count_value { result.count ≡ length (rests list.now) }
-    ensures room_after { room.new ≡ written (own_list (bench_of works pool.old) 2 list.now).records room.old }
+    ensures pool_after { bench_of result.works pool.new
+        ≡ ended_as (run_rests (bench_of works pool.old) 2 (S.numbers list) (S.commands list)) (length (S.commands list)) }
+    ensures count_value { result.count ≡ length (S.commands list) }
+    ensures room_after { room.new ≡ written (run_rests (bench_of works pool.old) 2 (S.numbers list) (S.commands list)).records room.old }
 {
     let part = run_list(works, pool, list, walk::PUPIL, room);
-    ended(part, room)
+    let latest = report::latest_of(room, part.count);
+    Part {
+        works: Works {
+            latest,
+            ..part.works
+        },
+        count: part.count,
+    }
+}
+
+// A run whose lists were judged: 21, then 27, then the kit's list and the pupil's.
+fn run_judged<S: Source + Drop>(
+    bench: Bench,
+    kit: &[u8],
+    pupil: S,
+    room: &mut [u8],
+) -> Result<Ran, RunRefusal>
+    requires short { length kit.now ≤ 4096 }
+    requires even { Even (S.numbers pupil) (S.commands pupil) }
+    ensures result_value { ran_of bench result ≡ judged_run bench kit.now (S.numbers pupil) (S.commands pupil) room.old }
+    ensures room_after { room.new ≡ judged_room bench kit.now (S.numbers pupil) (S.commands pupil) room.old }
+{
+    if room.len() < report::ROOM {
+        return Err(RunRefusal::RoomTooSmall);
+    }
+    let tally = bench.tally()?;
+    let works = Works {
+        tally,
+        ..bench.works()
+    };
+    let mut pool = bench.store.pool;
+    let first = run_list(works, &mut pool, Raw::new(kit), walk::KIT, room);
+    let end = first.count as usize * report::RECORD;
+    let second = run_pupil(first.works, &mut pool, pupil, &mut room[end..]);
+    Ok(Ran {
+        bench: bench_of(second.works, pool),
+        kit: first.count,
+        pupil: second.count,
+    })
 }
 
 impl Bench {
-    // The kit's list, then the pupil's: 20, then 21, then 27.
-    pub fn run(self, kit: &[u8], pupil: &[u8], room: &mut [u8]) -> Ran
-        ensures result_value { ran_of result ≡ run_of self kit.now pupil.now room.old }
+    /// The run of the kit's list and then the pupil's, both raw, with their records, one after another, at the front of a room; the bytes behind them
+    /// stay. Rules: "Two lists, one report".
+    ///
+    /// # Errors
+    ///
+    /// 20 for a list above 4,096 bytes, 21 for a room below 12,288 bytes, then 27. The room is then as it was.
+    pub fn run(self, kit: &[u8], pupil: &[u8], room: &mut [u8]) -> Result<Ran, RunRefusal>
+        ensures result_value { ran_of self result ≡ run_of self kit.now pupil.now room.old }
         ensures room_after { room.new ≡ room_after self kit.now pupil.now room.old }
     {
         if walk::LONGEST < kit.len() {
-            return refused(self, Begun::ListTooLong);
+            return Err(RunRefusal::ListTooLong);
         }
         if walk::LONGEST < pupil.len() {
-            return refused(self, Begun::ListTooLong);
+            return Err(RunRefusal::ListTooLong);
         }
-        if room.len() < report::ROOM {
-            return refused(self, Begun::RoomTooSmall);
-        }
-        let store = self.store;
-        let mut pool = store.pool;
-        let works = self.works();
-        let survey = survey(works, &pool);
-        if !survey.sound {
-            return refused(self, Begun::Unsound);
-        }
-        let tally = survey.tally;
-        let works = Works { tally, ..works };
-        let first = run_list(works, &mut pool, kit, walk::KIT, room);
-        let end = (first.count as usize) * report::RECORD;
-        let second = run_pupil(first.works, &mut pool, pupil, &mut room[end..]);
-        let bench = bench_of(second.works, pool);
-        Ran {
-            bench,
-            begun: Begun::Done,
-            kit: first.count,
-            pupil: second.count,
-        }
-    }
-}
-
-// A run that was refused: the bench as it was, and no records.
-fn refused(bench: Bench, begun: Begun) -> Ran
-    ensures { result ≡ refused_with bench begun }
-{
-    Ran {
-        bench,
-        begun,
-        kit: 0,
-        pupil: 0,
+        run_judged(self, kit, Raw::new(pupil), room)
     }
 }

@@ -1,61 +1,71 @@
 -- `Bench::run_typed` meets its contract: a kit's list that is too long and a text that is refused are found first, and the rest of the run finds
 -- what is left (`TypedRun`).
-use mathlib.Core.Path.{refl, sym, ap, ◌∙◌}
-use Rattle.text.specs.Findings.{Outcome, translated_of}
-use Rattle.text.proofs.Found.{fault_code}
-use Rattle.bench.specs.declared.lists.typed.TypedBegun.{TypedBegun}
-use Rattle.bench.proofs.TypedRun.{kit_long, text_refused, refused_run, judged_good}
+use mathlib.Core.Path.{◌≡◌, ap, ◌∙◌}
+use borrow.Author.Rules.{rules}
+use Rattle.std.specs.Prelude.{Err}
+use Rattle.text.specs.declared.findings.Finding.{Finding}
+use Rattle.bench.specs.Typed.{typed_ran_of}
+use Rattle.bench.specs.Steps.{of_text, of_run}
+use Rattle.bench.proofs.Sources.{passed}
+use Rattle.bench.proofs.TypedRun.{kit_refused, text_refuses, judged_good, lines_even, told_same, room_same, run_passed, run_refused, room_like}
 use Rattle.bench.proofs.Bench.run_typed.Goals as goal
 
 pub returns-then-kit-gt-LONGEST-clause-result_value : goal.returns-then-kit-gt-LONGEST-clause-result_value
 returns-then-kit-gt-LONGEST-clause-result_value c =
-    let args = c.args in
-    (refused_run args.self args.kit.now args.text.now args.room.now TypedBegun.TooLong c.refused.result c.refused.ensures refl
-    (kit_long args.self args.kit.now args.text.now args.room.now c.if-kit-gt-LONGEST.true)).0
+    let args = c.args in (kit_refused args.self args.kit.now args.text.now args.room.now c.if-kit-gt-LONGEST.true).0
 
 pub returns-then-kit-gt-LONGEST-clause-room_after : goal.returns-then-kit-gt-LONGEST-clause-room_after
 returns-then-kit-gt-LONGEST-clause-room_after c =
-    let args = c.args in
-    (refused_run args.self args.kit.now args.text.now args.room.now TypedBegun.TooLong c.refused.result c.refused.ensures refl
-    (kit_long args.self args.kit.now args.text.now args.room.now c.if-kit-gt-LONGEST.true)).1
+    let args = c.args in (kit_refused args.self args.kit.now args.text.now args.room.now c.if-kit-gt-LONGEST.true).1
 
-pub run_judged-requires : goal.run_judged-requires
-run_judged-requires c =
-    let fine = c.in-Done.is in
-    (c.if-kit-gt-LONGEST.false, judged_good c.args.text.now _ (sym (ap translated_of fine) ∙ c.judge_text.ensures) refl)
-
-pub returns-in-TooLong-clause-result_value : goal.returns-in-TooLong-clause-result_value
-returns-in-TooLong-clause-result_value c =
+pub returns-in_err-judge_text-clause-result_value : goal.returns-in_err-judge_text-clause-result_value
+returns-in_err-judge_text-clause-result_value c =
     let args = c.args in
-    let is = sym (ap translated_of c.in-TooLong.is) ∙ c.judge_text.ensures in
-    (refused_run args.self args.kit.now args.text.now args.room.now TypedBegun.TooLong c.refused-in-TooLong.result c.refused-in-TooLong.ensures refl
-    (text_refused args.self args.kit.now args.text.now args.room.now c.if-kit-gt-LONGEST.false _
-    (ap (λ (o : Outcome). o.found) is) refl)).0
+    let is : c.from_residual.result ≡ Err (of_text c.in_err-judge_text.field-0.0) = search rules in
+    ap (typed_ran_of args.self) is
+    ∙ (text_refuses args.self args.kit.now args.text.now args.room.now c.if-kit-gt-LONGEST.false _ c.in_err-judge_text.ensures).0
 
-pub returns-in-TooLong-clause-room_after : goal.returns-in-TooLong-clause-room_after
-returns-in-TooLong-clause-room_after c =
+pub returns-in_err-judge_text-clause-room_after : goal.returns-in_err-judge_text-clause-room_after
+returns-in_err-judge_text-clause-room_after c =
     let args = c.args in
-    let is = sym (ap translated_of c.in-TooLong.is) ∙ c.judge_text.ensures in
-    (refused_run args.self args.kit.now args.text.now args.room.now TypedBegun.TooLong c.refused-in-TooLong.result c.refused-in-TooLong.ensures refl
-    (text_refused args.self args.kit.now args.text.now args.room.now c.if-kit-gt-LONGEST.false _
-    (ap (λ (o : Outcome). o.found) is) refl)).1
+    (text_refuses args.self args.kit.now args.text.now args.room.now c.if-kit-gt-LONGEST.false _ c.in_err-judge_text.ensures).1
 
-pub returns-in-Bad-clause-result_value : goal.returns-in-Bad-clause-result_value
-returns-in-Bad-clause-result_value c =
-    let args = c.args in
-    let is = sym (ap translated_of c.in-Bad.is) ∙ c.judge_text.ensures in
-    let other = fault_code c.in-Bad.fault in
-    (refused_run args.self args.kit.now args.text.now args.room.now (TypedBegun.BadLine c.in-Bad.number c.in-Bad.fault)
-    c.refused-in-Bad.result c.refused-in-Bad.ensures other
-    (text_refused args.self args.kit.now args.text.now args.room.now c.if-kit-gt-LONGEST.false _
-    (ap (λ (o : Outcome). o.found) is) other)).0
+pub new-requires : goal.new-requires
+new-requires c =
+    let good = judged_good c.args.text.now _ c.in_ok-judge_text.ensures in
+    (passed c.args.text.now (ap (λ (f : Finding). f.told.code) good)).short
 
-pub returns-in-Bad-clause-room_after : goal.returns-in-Bad-clause-room_after
-returns-in-Bad-clause-room_after c =
+pub run_judged-requires-clause-even : goal.run_judged-requires-clause-even
+run_judged-requires-clause-even c =
+    let good = judged_good c.args.text.now _ c.in_ok-judge_text.ensures in
+    lines_even c.args.text.now c.new.ensures (passed c.args.text.now (ap (λ (f : Finding). f.told.code) good)).list_short
+
+pub returns-in_err-ran-clause-result_value : goal.returns-in_err-ran-clause-result_value
+returns-in_err-ran-clause-result_value c =
     let args = c.args in
-    let is = sym (ap translated_of c.in-Bad.is) ∙ c.judge_text.ensures in
-    let other = fault_code c.in-Bad.fault in
-    (refused_run args.self args.kit.now args.text.now args.room.now (TypedBegun.BadLine c.in-Bad.number c.in-Bad.fault)
-    c.refused-in-Bad.result c.refused-in-Bad.ensures other
-    (text_refused args.self args.kit.now args.text.now args.room.now c.if-kit-gt-LONGEST.false _
-    (ap (λ (o : Outcome). o.found) is) other)).1
+    let good = judged_good args.text.now _ c.in_ok-judge_text.ensures in
+    let is : c.from_residual-in_err-ran.result ≡ Err (of_run c.in_err-ran.field-0.0) = search rules in
+    ap (typed_ran_of args.self) is
+    ∙ run_refused args.self args.kit.now args.text.now args.room.now c.if-kit-gt-LONGEST.false good _
+    (told_same args.text.now c.new.ensures args.self args.kit.now args.room.now c.in_err-ran.ensures.result_value)
+
+pub returns-in_err-ran-clause-room_after : goal.returns-in_err-ran-clause-room_after
+returns-in_err-ran-clause-room_after c =
+    let args = c.args in
+    let good = judged_good args.text.now _ c.in_ok-judge_text.ensures in
+    room_same args.text.now c.new.ensures args.self args.kit.now args.room.now c.in_err-ran.ensures.room_after
+    ∙ room_like args.self args.kit.now args.text.now args.room.now c.if-kit-gt-LONGEST.false good
+
+pub returns-clause-result_value : goal.returns-clause-result_value
+returns-clause-result_value c =
+    let args = c.args in
+    let good = judged_good args.text.now _ c.in_ok-judge_text.ensures in
+    run_passed args.self args.kit.now args.text.now args.room.now c.if-kit-gt-LONGEST.false good _
+    (told_same args.text.now c.new.ensures args.self args.kit.now args.room.now c.in_ok-ran.ensures.result_value)
+
+pub returns-clause-room_after : goal.returns-clause-room_after
+returns-clause-room_after c =
+    let args = c.args in
+    let good = judged_good args.text.now _ c.in_ok-judge_text.ensures in
+    room_same args.text.now c.new.ensures args.self args.kit.now args.room.now c.in_ok-ran.ensures.room_after
+    ∙ room_like args.self args.kit.now args.text.now args.room.now c.if-kit-gt-LONGEST.false good

@@ -1,20 +1,17 @@
 -- `Bench::status` meets its contract: 27, else the fields.
-use mathlib.Core.Path.{◌≡◌, sym, ap, ◌∙◌}
-use Rattle.store.specs.declared.tally.Survey.{Survey}
-use Rattle.bench.specs.Status.{status_of, bench_sound}
+use mathlib.Core.Path.{◌≡◌, ap, ◌∙◌}
+use borrow.Author.Rules.{rules}
+use Rattle.std.specs.Prelude.{Err}
+use Rattle.bench.specs.Status.{told_status, status_of}
 use Rattle.bench.proofs.Judging.{own_bench, known, unknown}
 use Rattle.bench.proofs.Bench.status.Goals as goal
 
-pub returns-then-survey : goal.returns-then-survey
-returns-then-survey c =
-    let judged : bench_sound c.args.self ≡ c.survey-survey.result.sound = let whole = own_bench c.args.self _ c.works-works.ensures in
-    sym (ap (λ (s : Survey). s.sound) c.survey-survey.ensures ∙ ap bench_sound whole) in
-    let b = c.args.self in
-    known b c.fields.result (judged ∙ c.if-survey.true)
-    (c.fields.ensures ∙ ap status_of (own_bench b _ c.works-works.ensures))
+pub returns-in_err-tally : goal.returns-in_err-tally
+returns-in_err-tally c =
+    let is : c.from_residual.result ≡ Err (record {}) = search rules in
+    ap told_status is ∙ unknown c.args.self c.in_err-tally.ensures.sound
 
-pub returns-else-survey : goal.returns-else-survey
-returns-else-survey c =
-    let judged : bench_sound c.args.self ≡ c.survey-survey.result.sound = let whole = own_bench c.args.self _ c.works-works.ensures in
-    sym (ap (λ (s : Survey). s.sound) c.survey-survey.ensures ∙ ap bench_sound whole) in
-    unknown c.args.self (judged ∙ c.if-survey.false)
+pub returns : goal.returns
+returns c =
+    let b = c.args.self in
+    known b c.fields.result c.in_ok-tally.ensures.sound (c.fields.ensures ∙ ap status_of (own_bench b _ c.works.ensures))

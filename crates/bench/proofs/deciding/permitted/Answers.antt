@@ -1,13 +1,16 @@
 -- `deciding::permitted` meets its contract: what is dark is refused, else what the tally denies; what it grants is accepted.
-use mathlib.Core.Path.{◌≡◌, refl, sym, ◌∙◌}
+use mathlib.Core.Path.{◌≡◌, refl, sym, ap, ◌∙◌}
 use mathlib.Core.Bool.{Bool, true, false, not}
+use borrow.Author.Rules.{rules}
 use borrow.Author.Tests.{not-false}
+use Rattle.std.specs.Prelude.{Err}
 use Rattle.wire.specs.declared.kinds.Kind.{Kind}
 use Rattle.camera.specs.Camera.{dark}
+use Rattle.bench.specs.declared.Rejection.{Rejection}
 use Rattle.bench.specs.Carry.{row26}
+use Rattle.bench.specs.Steps.{decision_of}
 use Rattle.bench.proofs.Dark.{on_lit}
 use Rattle.bench.proofs.Decisions.{in_dark, denied, granted}
-use mathlib.Core.Path.{ap}
 use Rattle.bench.proofs.deciding.permitted.Goals.{else-not-power-via-else-not-power, else-not-power-via-then-not-power+else-not-command, else-not-power-via-then-not-power+then-not-command+else-is_dark}
 use Rattle.bench.proofs.deciding.permitted.Goals as goal
 
@@ -33,20 +36,21 @@ returns-then-is_dark c =
     in_dark start.power start.tally start.command
     (due start.power start.command.flag start.command.kind c.if-not-command.true (sym c.is_dark.ensures ∙ c.if-is_dark.true))
 
-pub returns-in-Denied : goal.returns-in-Denied
-returns-in-Denied c =
+pub returns-in_err-permits : goal.returns-in_err-permits
+returns-in_err-permits c =
     let lit : row26 c.args.power c.args.command.flag c.args.command.kind ≡ false = let power = c.args.power in
     let flag = c.args.command.flag in
     let kind = c.args.command.kind in
     elim c.else-not-power.branch [ else-not-power-via-then-not-power+then-not-command+else-is_dark w ↦ not_dark power flag kind (sym w.is_dark.ensures ∙ w.if-is_dark.false) | else-not-power-via-then-not-power+else-not-command w ↦ appended power flag kind (not-false flag w.if-not-command.false) | else-not-power-via-else-not-power w ↦ with_power power flag kind (not-false power (ap not w.if-not-power.false)) ] in
     let start = c.args in
-    denied start.power start.tally start.command lit c.in-Denied.denial (rw c.in-Denied.is at c.permits.ensures)
+    let is : c.from_residual.result ≡ Err (Rejection.Denied c.in_err-permits.field-0.0) = search rules in
+    ap decision_of is ∙ denied start.power start.tally start.command lit _ c.in_err-permits.ensures
 
-pub returns-in-Granted : goal.returns-in-Granted
-returns-in-Granted c =
+pub returns : goal.returns
+returns c =
     let lit : row26 c.args.power c.args.command.flag c.args.command.kind ≡ false = let power = c.args.power in
     let flag = c.args.command.flag in
     let kind = c.args.command.kind in
     elim c.else-not-power.branch [ else-not-power-via-then-not-power+then-not-command+else-is_dark w ↦ not_dark power flag kind (sym w.is_dark.ensures ∙ w.if-is_dark.false) | else-not-power-via-then-not-power+else-not-command w ↦ appended power flag kind (not-false flag w.if-not-command.false) | else-not-power-via-else-not-power w ↦ with_power power flag kind (not-false power (ap not w.if-not-power.false)) ] in
     let start = c.args in
-    granted start.power start.tally start.command lit (rw c.in-Granted.is at c.permits.ensures)
+    granted start.power start.tally start.command lit c.in_ok-permits.ensures

@@ -1,15 +1,14 @@
 -- `lists::run_pupil` meets its contract: the list is carried out, and what its records say is noted (`Ending`).
-use Rattle.bench.specs.Run.{own_numbers}
-use Rattle.bench.specs.Steps.{bench_of}
-use Rattle.bench.proofs.InTurn.{own_even}
+use mathlib.Core.Path.{ap}
+use Rattle.report.specs.declared.Latest.{Latest}
+use Rattle.bench.specs.Steps.{bench_of, works_noting}
 use Rattle.bench.proofs.Ending.{list_ended}
 use Rattle.bench.proofs.lists.run_pupil.Goals as goal
 
 pub returns-clause-pool_after : goal.returns-clause-pool_after
-returns-clause-pool_after c =
-    let done = c.run_list-part.ensures in
-    let count = done.count_value.0 in
-    let list = c.args.list.now in
-    list_ended (bench_of c.args.works c.args.pool.now) (own_numbers list) list (own_even list) c.run_list-part.result.works
-    c.ended.result.works c.run_list-part.new.pool c.args.room.now c.run_list-part.new.room
-    c.run_list-part.result.count done.pool_after done.room_after c.requires.list_len_bound.1 count c.ended.ensures.0
+returns-clause-pool_after g c =
+    let args = c.args in
+    let part = c.run_list-part in
+    list_ended (bench_of args.works args.pool.now) (g.S.Source.numbers args.list) (g.S.Source.commands args.list) c.requires.even.0
+    part.result.works _ part.new.pool args.room.now part.new.room part.result.count part.ensures.pool_after part.ensures.room_after c.requires.fits
+    part.ensures.count_value.0 (ap (λ (latest : Latest). works_noting part.result.works latest) c.latest_of-latest.ensures)
