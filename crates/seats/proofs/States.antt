@@ -1,52 +1,26 @@
 -- Laws behind the functions on the four seats.
-use Rattle.std.proofs.Common.{◌≡◌, ℕ, zero, suc, ◌+◌, ◌%◌, ◌<◌, ◌≤◌, Bool, true, false, cond, eqb, ltb, List, [], ◌∷◌, ◌++◌, sym, refl, ap, ◌∙◌, arith, ltb-true, le-ltb, lt-ltb, eqb-true}
-use borrow.Author.Tests.{eqb-false}
-use Rattle.bench.specs.Exports.{Check, ◌when◌, Command, plain, Answer, said, read_checks, group_of}
+use Rattle.std.proofs.Common.{◌≡◌, ℕ, zero, suc, ◌+◌, ◌%◌, ◌<◌, ◌≤◌, Bool, true, false, cond, eqb, ltb, List, [], ◌∷◌, ◌++◌, sym, refl, ap, ◌∙◌, arith, ltb-true, le-ltb, lt-ltb}
+use Rattle.std.specs.Prelude.{Result, Ok, Err}
+use Rattle.std.specs.Result.{result_unwrap_or}
+use Rattle.bench.specs.Exports.{Check, ◌when◌, Command, plain, told_by, Answer, said, read_checks}
 use Rattle.bench.specs.declared.Bench.{Bench}
-use Rattle.bench.specs.declared.Passed as benched
 use Rattle.bench.specs.Status.{StatusTold, bench_sound}
 use Rattle.bench.specs.Status as shared
-use Rattle.bench.specs.Carry.{carry_out}
-use Rattle.bench.specs.Second.{codes_shown}
+use Rattle.bench.specs.declared.Rejection.{Rejection}
+use Rattle.bench.specs.Carry.{verdict_of, outcome_of, carry_out}
+use Rattle.bench.specs.Second.{SecondTold}
 use Rattle.bench.specs.Second as passing
 use Rattle.bench.proofs.Exports.{both, Coded, first_append}
 use Rattle.bench.proofs.Outcomes.{read_coded}
 use Rattle.bench.proofs.Rows.{command_most, command_unsound}
 use Rattle.seats.specs.declared.queues.Queue.{Queue}
 use Rattle.seats.specs.declared.Seats.{Seats}
-use Rattle.seats.specs.declared.Passed.{Passed}
-use Rattle.seats.specs.declared.queueing.Entry.{Entry}
-use Rattle.seats.specs.declared.queueing.Front.{Front}
-use Rattle.seats.specs.declared.turns.Served.{Served}
-use Rattle.seats.specs.declared.turns.Turned.{Turned}
-use Rattle.seats.specs.State.{waits, holds_at, queues_hold, rules_hold, seats_sound, next_after, next_of}
-use Rattle.seats.specs.Queueing.{follows, front_checks, front_code, front_of, front_at, entry_told, QueueTold, full, room_for, queue_code, queue_at}
-use Rattle.seats.specs.Turn.{TurnTold, turned_of, record_shown, without, served_at, stays, turn_at}
-use Rattle.seats.specs.Turn.{PassedTold, passed_of, passed_as, passed_not, second_at, status_at}
+use Rattle.seats.specs.declared.queueing.Refusal.{Refusal}
+use Rattle.seats.specs.State.{waits, queues_hold, rules_hold, seats_sound, next_after, next_of}
+use Rattle.seats.specs.Queueing.{follows, front_checks, front_code, front_of, front_at, refusal_told, QueueTold, full, room_for, queue_code, queue_at}
+use Rattle.seats.specs.Turn.{served_at, stays, turn_at}
+use Rattle.seats.specs.Turn.{passed_as, passed_not, second_at, status_at}
 use Rattle.seats.proofs.Fronts.{front_zero}
-
--- The queues of the first seats hold, one seat after another.
-abbrev pub HoldTo : List Queue → ℕ → Type 0
-HoldTo qs n = (v : ℕ) → v < n → holds_at qs v ≡ true
-
-pub hold_on : (qs : List Queue) (n : ℕ) → HoldTo qs n → holds_at qs n ≡ true → HoldTo qs (n + 1)
-hold_on qs n before here v h = go (eqb v n) refl
-  where
-    go : (b : Bool) → eqb v n ≡ b → holds_at qs v ≡ true
-    go true is = rw (eqb-true v n is) here
-    go false is = before v (omega (arith, eqb-false v n is))
-
-pub hold_all : (qs : List Queue) (n : ℕ) → 4 ≤ n → HoldTo qs n → true ≡ queues_hold qs
-hold_all qs n all before =
-    rw (before 0 (omega arith), before 1 (omega arith), before 2 (omega arith)) (sym (before 3 (omega arith)))
-
-pub one_fails : (qs : List Queue) (n : ℕ) → n < 4 → HoldTo qs n → holds_at qs n ≡ false → false ≡ queues_hold qs
-one_fails qs zero h before here = rw here
-one_fails qs (suc zero) h before here = rw (before 0 (omega arith), here)
-one_fails qs (suc (suc zero)) h before here = rw (before 0 (omega arith), before 1 (omega arith), here)
-one_fails qs (suc (suc (suc zero))) h before here =
-    rw (before 0 (omega arith), before 1 (omega arith), before 2 (omega arith)) (sym here)
-one_fails qs (suc (suc (suc (suc n)))) h before here = absurd (omega arith)
 
 -- Soundness by its parts.
 pub bad_last : (s : Seats) → 4 ≤ s.last → false ≡ rules_hold s
@@ -97,6 +71,51 @@ next_waits qs last h =
     go false false false true p q r t h = t
     go false false false false p q r t h = absurd (omega arith)
 
+-- The search for it: none of the seats before this step waits, and the one at it does, or no step is left.
+abbrev pub NoneTo : List Queue → ℕ → ℕ → Type 0
+NoneTo qs last n = (v : ℕ) → v < n → waits qs ((last + 1 + v) % 4) ≡ false
+
+module _ (qs : List Queue) (last : ℕ) (below : last < 4) where
+  behind : (b : Bool) (v at : ℕ) → (last + 1 + v) % 4 ≡ at → waits qs ((last + 1 + v) % 4) ≡ b → waits qs at ≡ b
+  behind b v at is waited = rw (← is) waited
+
+  pub next_found : (n : ℕ) → n < 4 → NoneTo qs last n → waits qs ((last + 1 + n) % 4) ≡ true → (last + 1 + n) % 4 ≡ next_after qs last
+  unfolding next_after
+  next_found zero h before here =
+      let at : (last + 1 + 0) % 4 ≡ (last + 1) % 4 = omega arith in
+      at ∙ rw (behind true 0 _ at here) refl
+  next_found (suc zero) h before here =
+      let at : (last + 1 + 1) % 4 ≡ (last + 2) % 4 = omega arith in
+      at ∙ rw (behind false 0 ((last + 1) % 4) (omega arith) (before 0 (omega arith)), behind true 1 _ at here) refl
+  next_found (suc (suc zero)) h before here =
+      let at : (last + 1 + 2) % 4 ≡ (last + 3) % 4 = omega arith in
+      at
+      ∙ rw (
+        behind false 0 ((last + 1) % 4) (omega arith) (before 0 (omega arith)),
+        behind false 1 ((last + 2) % 4) (omega arith) (before 1 (omega arith)),
+        behind true 2 _ at here,
+      ) refl
+  next_found (suc (suc (suc zero))) h before here =
+      let at : (last + 1 + 3) % 4 ≡ last = omega (arith, below) in
+      at
+      ∙ rw (
+        behind false 0 ((last + 1) % 4) (omega arith) (before 0 (omega arith)),
+        behind false 1 ((last + 2) % 4) (omega arith) (before 1 (omega arith)),
+        behind false 2 ((last + 3) % 4) (omega arith) (before 2 (omega arith)),
+        behind true 3 last at here,
+      ) refl
+  next_found (suc (suc (suc (suc n)))) h before here = absurd (omega arith)
+
+  pub next_none : (n : ℕ) → 4 ≤ n → NoneTo qs last n → 4 ≡ next_after qs last
+  unfolding next_after
+  next_none n all before =
+      rw (
+        behind false 0 ((last + 1) % 4) (omega arith) (before 0 (omega arith)),
+        behind false 1 ((last + 2) % 4) (omega arith) (before 1 (omega arith)),
+        behind false 2 ((last + 3) % 4) (omega arith) (before 2 (omega arith)),
+        behind false 3 last (omega (arith, below)) (before 3 (omega arith)),
+      ) refl
+
 -- Queueing: the rows one after another.
 coded_append : (xs ys : List Check) → Coded xs → Coded ys → Coded (xs ++ ys)
 coded_append [] ys h k = k
@@ -116,8 +135,8 @@ unfolding queue_at queue_code
 queue_unsound s seat bytes e = rw e
 
 -- A front that refuses has a code, and what is told is told of the bytes.
-front_refuses : (seat : ℕ) (bytes : List ℕ) (entry : Entry) → front_of (Front.Refuses entry) ≡ front_at seat bytes → eqb (front_code seat bytes) 0 ≡ false
-front_refuses seat bytes entry e = go (eqb (front_code seat bytes) 0) refl
+front_refuses : (seat : ℕ) (bytes : List ℕ) (refusal : Refusal) → front_of (Err refusal) ≡ front_at seat bytes → eqb (front_code seat bytes) 0 ≡ false
+front_refuses seat bytes refusal e = go (eqb (front_code seat bytes) 0) refl
   where
     go : (b : Bool) → eqb (front_code seat bytes) 0 ≡ b → eqb (front_code seat bytes) 0 ≡ false
     go false is = is
@@ -125,12 +144,12 @@ front_refuses seat bytes entry e = go (eqb (front_code seat bytes) 0) refl
         let same : [] ≡ cond (eqb (front_code seat bytes) 0) (said bytes ∷ []) [] = ap (λ (a : Answer). a.taken) e in
         let z : ◌≡◌ {A = ℕ} 0 1 = cc (rw is at same) in omega arith)
 
-pub queue_refused : (s : Seats) (seat : ℕ) (bytes : List ℕ) (entry : Entry) → seats_sound s ≡ true → front_of (Front.Refuses entry) ≡ front_at seat bytes
-    → ◌≡◌ {A = QueueTold} (record { told = entry_told entry; seats = s }) (queue_at s seat bytes)
+pub queue_refused : (s : Seats) (seat : ℕ) (bytes : List ℕ) (refusal : Refusal) → seats_sound s ≡ true → front_of (Err refusal) ≡ front_at seat bytes
+    → ◌≡◌ {A = QueueTold} (record { told = refusal_told refusal; seats = s }) (queue_at s seat bytes)
 unfolding queue_at
-queue_refused s seat bytes entry sound e =
-    let none = front_refuses seat bytes entry e in
-    let told : entry_told entry ≡ _ = ap (λ (a : Answer). a.told) e in
+queue_refused s seat bytes refusal sound e =
+    let none = front_refuses seat bytes refusal e in
+    let told : refusal_told refusal ≡ _ = ap (λ (a : Answer). a.told) e in
     let code : queue_code s seat bytes ≡ front_code seat bytes = queue_code_lem s seat bytes sound ∙ rw none in
     rw (code, none, told)
 
@@ -139,14 +158,14 @@ pub record Takes (seat : ℕ) (bytes : List ℕ) (c : Command) : Type 0 where
   pub command : c ≡ said bytes
   pub below : seat < 4
 
-pub front_takes : (seat : ℕ) (bytes : List ℕ) (c : Command) → front_of (Front.Takes c) ≡ front_at seat bytes → Takes seat bytes c
+pub front_takes : (seat : ℕ) (bytes : List ℕ) (c : Command) → front_of (Ok c) ≡ front_at seat bytes → Takes seat bytes c
 front_takes seat bytes c e =
     let code : 0 ≡ front_code seat bytes = ap (λ (a : Answer). a.told.code) e in
     let same : c ∷ [] ≡ cond (eqb (front_code seat bytes) 0) (said bytes ∷ []) [] = ap (λ (a : Answer). a.taken) e in
     record { code = sym code; command = cc (rw (← code) at same); below = (front_zero seat bytes (sym code)).0 }
 
 pub queue_taken : (s : Seats) (seat : ℕ) (bytes : List ℕ) (c : Command) (r : QueueTold) → seats_sound s ≡ true
-    → front_of (Front.Takes c) ≡ front_at seat bytes → r ≡ room_for s seat c → r ≡ queue_at s seat bytes
+    → front_of (Ok c) ≡ front_at seat bytes → r ≡ room_for s seat c → r ≡ queue_at s seat bytes
 unfolding queue_at
 queue_taken s seat bytes c r sound e is = is ∙ go (full s seat) refl
   where
@@ -170,20 +189,6 @@ pub turn_one : (s : Seats) → seats_sound s ≡ true → next_of s < 4 → serv
 unfolding turn_at
 turn_one s e h = rw (e, lt-ltb (next_of s) 4 h)
 
--- The bytes beside an answer are those of its record, zeros where there is none.
-shows : (s : Seats) (served : Served) (r : Turned) → r ≡ without s served → r.bytes ≡ record_shown (turned_of r).records
-shows s Served.Unsound r is = rw is
-shows s Served.Nobody r is = rw is
-shows s Served.One r is = rw is
-
-pub so_told : (r : Turned) (told : TurnTold) → turned_of r ≡ told → r.bytes ≡ record_shown (turned_of r).records
-    → (turned_of r ≡ told) × (r.bytes ≡ record_shown told.records)
-so_told r told e shown = (e, shown ∙ ap (λ (t : TurnTold). record_shown t.records) e)
-
-pub ends : (s : Seats) (served : Served) (r : Turned) (told : TurnTold) → r ≡ without s served → turned_of (without s served) ≡ told
-    → (turned_of r ≡ told) × (r.bytes ≡ record_shown (turned_of r).records)
-ends s served r told is same = (ap turned_of is ∙ same, shows s served r is)
-
 -- The bench's own code tells whether it is sound.
 pub told_unsound : (b : Bench) (c : Command) → (carry_out b c).told.code ≡ 27 → bench_sound b ≡ false
 told_unsound b c is = go (bench_sound b) refl
@@ -199,6 +204,15 @@ told_sound b c other = go (bench_sound b) refl
     go true e = e
     go false e = absurd (other (command_unsound b e c))
 
+-- What is told of carrying out, and the bench that is left: on a refusal the one that was handed in.
+pub told_outcome : (b : Bench) (r : Result Bench Rejection) → (outcome_of b r).told ≡ told_by verdict_of r
+told_outcome b (Ok after) = refl
+told_outcome b (Err rejection) = refl
+
+pub left_outcome : (b : Bench) (r : Result Bench Rejection) → result_unwrap_or r b ≡ (outcome_of b r).bench
+left_outcome b (Ok after) = refl
+left_outcome b (Err rejection) = refl
+
 -- Where the seats' own rules hold, all is by the bench's soundness.
 module _ (s : Seats) (rules : rules_hold s ≡ true) where
   pub turn_idle : 4 ≤ next_of s → cond (bench_sound s.bench) (stays 0 s) (stays 27 s) ≡ turn_at s
@@ -209,7 +223,7 @@ module _ (s : Seats) (rules : rules_hold s ≡ true) where
   unfolding turn_at
   turn_served some = rw (by_bench s rules, lt-ltb (next_of s) 4 some)
 
-  second_by : passed_as s (passing.second_at s.bench) ≡ second_at s
+  pub second_by : passed_as s (passing.second_at s.bench) ≡ second_at s
   unfolding second_at passing.second_at
   second_by = rw (by_bench s rules) (go (bench_sound s.bench) refl)
     where
@@ -227,7 +241,7 @@ module _ (s : Seats) (rules : rules_hold s ≡ true) where
       go false e = rw e
 
 -- Seconds and status of a state that is not sound.
-second_unsound : (s : Seats) → seats_sound s ≡ false → passed_not s ≡ second_at s
+pub second_unsound : (s : Seats) → seats_sound s ≡ false → passed_not s ≡ second_at s
 unfolding second_at
 second_unsound s e = rw e
 
@@ -235,30 +249,6 @@ pub status_unsound : (s : Seats) → seats_sound s ≡ false → ◌≡◌ {A = 
 unfolding status_at
 status_unsound s e = rw e
 
--- The whole answer of a second, with group and codes as the bench has them.
-abbrev Whole : Seats → Passed → Type 0
-Whole s r = (passed_of r ≡ second_at s) × ((r.group ≡ group_of (second_at s).handed) × (r.codes ≡ codes_shown (second_at s).codes))
-
-pub second_stays : (s : Seats) (r : Passed) → (passed_of r ≡ passed_not s) × (r.group ≡ group_of []) × (r.codes ≡ codes_shown []) → seats_sound s ≡ false
-    → Whole s r
-second_stays s r is bad =
-    let same = second_unsound s bad in
-    (is.0 ∙ same, (is.1 ∙ ap (λ (t : PassedTold). group_of t.handed) same, is.2 ∙ ap (λ (t : PassedTold). codes_shown t.codes) same))
-
 -- The seats around the bench's own answer.
-abbrev around : Seats → benched.Passed → Passed
-around s p =
-    record {
-      seats = record { bench = p.bench; queues = s.queues; last = s.last };
-      verdict = p.verdict;
-      codes = p.codes;
-      group = p.group;
-    }
-
-pub second_goes : (s : Seats) → rules_hold s ≡ true → (p : benched.Passed) → passing.passed_of p ≡ passing.second_at s.bench
-    → p.group ≡ group_of (passing.second_at s.bench).handed → p.codes ≡ codes_shown (passing.second_at s.bench).codes → Whole s (around s p)
-second_goes s rules p told group codes =
-    let same = second_by s rules in (
-      ap (passed_as s) told ∙ same,
-      (group ∙ ap (λ (t : PassedTold). group_of t.handed) same, codes ∙ ap (λ (t : PassedTold). codes_shown t.codes) same),
-    )
+pub second_goes : (s : Seats) → rules_hold s ≡ true → (told : SecondTold) → told ≡ passing.second_at s.bench → passed_as s told ≡ second_at s
+second_goes s rules told is = ap (passed_as s) is ∙ second_by s rules

@@ -1,21 +1,22 @@
 -- Queueing a command from bytes (02, Q-13): 27, then 51, 1 to 10 and 53 on the seat and the bytes alone, then 52.
-use Rattle.std.specs.Prelude.{ℕ, Bool, cond, leb, List, [], ◌∷◌, ◌++◌, length, ◌==◌, nat_le, nat_lt, slice_set}
-use Rattle.bench.specs.Exports.{Check, ◌when◌, first_of, Command, Parts, Told, plain, told_of, told_for, Answer, answer_for, said_parts, said, read_checks, span_of}
+use Rattle.std.specs.Prelude.{ℕ, Bool, cond, leb, List, [], ◌∷◌, ◌++◌, length, ◌==◌, nat_le, nat_lt, slice_set, Result, Ok, Err}
+use Rattle.bench.specs.Exports.{Check, ◌when◌, first_of, Command, Parts, Told, plain, told_of, told_by, told_for, Answer, answer_for, said_parts, said, read_checks, span_of}
 use Rattle.seats.specs.declared.Seats.{Seats}
-use Rattle.seats.specs.declared.queueing.Entry.{Entry}
-use Rattle.seats.specs.declared.queueing.Front.{Front}
-use Rattle.seats.specs.declared.queueing.Queued.{Queued}
+use Rattle.seats.specs.declared.queueing.Refusal.{Refusal}
 use Rattle.seats.specs.Queues.{entered_in}
 use Rattle.seats.specs.State.{queue_in, sound_check}
 
--- The number of each answer and, beside 8, what was wrong with the number.
-abbrev pub entry_told : Entry → Told
-entry_told Entry.Taken = plain 0
-entry_told Entry.Unsound = plain 27
-entry_told Entry.NoSeat = plain 51
-entry_told (Entry.Misread refusal) = told_of refusal
-entry_told Entry.BytesFollow = plain 53
-entry_told Entry.Full = plain 52
+-- The number of each refusal and, beside 8, what was wrong with the number.
+abbrev pub refusal_told : Refusal → Told
+refusal_told Refusal.Unsound = plain 27
+refusal_told Refusal.NoSeat = plain 51
+refusal_told (Refusal.Misread refusal) = told_of refusal
+refusal_told Refusal.BytesFollow = plain 53
+refusal_told Refusal.Full = plain 52
+
+-- The same of each answer: 0 where the command was queued.
+abbrev pub entry_told : {A : Type 0} → Result A Refusal → Told
+entry_told = told_by refusal_told
 
 -- "53 bytes follow": there are more than those of the command at the front.
 abbrev pub follows : List ℕ → Bool
@@ -28,20 +29,21 @@ front_checks seat s = 51 when leb 4 seat ∷ (read_checks s ++ (53 when follows 
 unfoldable pub front_code : ℕ → List ℕ → ℕ
 front_code seat s = first_of (front_checks seat s)
 
-abbrev pub front_of : Front → Answer
-front_of (Front.Takes c) = record { told = plain 0; taken = c ∷ [] }
-front_of (Front.Refuses e) = record { told = entry_told e; taken = [] }
+abbrev pub front_of : Result Command Refusal → Answer
+front_of (Ok c) = record { told = plain 0; taken = c ∷ [] }
+front_of (Err refusal) = record { told = refusal_told refusal; taken = [] }
 
 abbrev pub front_at : ℕ → List ℕ → Answer
 front_at seat s = answer_for (front_code seat s) (said_parts s) (said s)
 
--- What queueing answers: a code with what is told beside it, and the state afterwards.
+-- What queueing answers: a code with what is told beside it, and the state afterwards, on a refusal the one that was handed in.
 pub record QueueTold : Type 0 where
   pub told : Told
   pub seats : Seats
 
-abbrev pub queued_of : Queued → QueueTold
-queued_of r = record { told = entry_told r.entry; seats = r.seats }
+abbrev pub queued_of : Seats → Result Seats Refusal → QueueTold
+queued_of s (Ok after) = record { told = plain 0; seats = after }
+queued_of s (Err refusal) = record { told = refusal_told refusal; seats = s }
 
 -- "52 when 32 wait"
 abbrev pub full : Seats → ℕ → Bool

@@ -1,14 +1,13 @@
 -- A turn, a second and the status of the shared bench (02, Q-13).
-use Rattle.std.specs.Prelude.{ℕ, cond, List, [], ◌∷◌, take, replicate, nat_lt, slice_set}
-use Rattle.bench.specs.Exports.{Kind, Told, plain, kinds_in, record_bytes}
+use Rattle.std.specs.Prelude.{ℕ, cond, List, [], ◌∷◌, take, nat_lt, slice_set, Option, Some, None, Result, Ok, Err}
+use Rattle.bench.specs.Exports.{Kind, Told, Unsound, plain, kinds_in, record_bytes}
 use Rattle.bench.specs.Status.{StatusTold}
 use Rattle.bench.specs.Status as shared
-use Rattle.bench.specs.Carry.{verdict_of, carry_out}
+use Rattle.bench.specs.Carry.{carry_out}
 use Rattle.bench.specs.Second.{SecondTold}
 use Rattle.bench.specs.Second as passing
 use Rattle.seats.specs.declared.Seats.{Seats}
 use Rattle.seats.specs.declared.Passed.{Passed}
-use Rattle.seats.specs.declared.turns.Served.{Served}
 use Rattle.seats.specs.declared.turns.Turned.{Turned}
 use Rattle.seats.specs.Queues.{oldest, served_in}
 use Rattle.seats.specs.State.{queue_in, number_at, seats_sound, next_of}
@@ -19,27 +18,19 @@ pub record TurnTold : Type 0 where
   pub records : List (List ℕ)
   pub seats : Seats
 
-abbrev pub served_code : Served → ℕ
-served_code Served.Unsound = 27
-served_code Served.Nobody = 0
-served_code Served.One = 0
+-- A turn in which no command was carried out: the state is the one that was handed in.
+abbrev pub stays : ℕ → Seats → TurnTold
+stays code s = record { code = code; records = []; seats = s }
 
-abbrev pub served_records : Served → List ℕ → List (List ℕ)
-served_records Served.Unsound bytes = []
-served_records Served.Nobody bytes = []
-served_records Served.One bytes = bytes ∷ []
+-- What is told of a turn in which a command was carried out or the state was not sound; and of any turn.
+abbrev pub served_of : Seats → Result Turned Unsound → TurnTold
+served_of s (Ok r) = record { code = 0; records = r.record ∷ []; seats = r.seats }
+served_of s (Err unsound) = stays 27 s
 
-abbrev pub turned_of : Turned → TurnTold
-turned_of r = record { code = served_code r.served; records = served_records r.served r.bytes; seats = r.seats }
-
--- The 12 bytes that stand beside the answer: the record's, or zeros where there is none.
-abbrev pub record_shown : List (List ℕ) → List ℕ
-record_shown [] = replicate 12 0
-record_shown (bytes ∷ more) = bytes
-
--- A turn in which no command was carried out.
-abbrev pub without : Seats → Served → Turned
-without s served = record { seats = s; served = served; bytes = record_shown [] }
+abbrev pub turned_of : Seats → Result (Option Turned) Unsound → TurnTold
+turned_of s (Ok (Some r)) = served_of s (Ok r)
+turned_of s (Ok None) = stays 0 s
+turned_of s (Err unsound) = stays 27 s
 
 -- The code that its oldest command gets as it is carried out.
 abbrev pub code_at : Seats → ℕ → ℕ
@@ -58,9 +49,6 @@ seats_after s seat =
 abbrev pub served_at : Seats → ℕ → TurnTold
 served_at s seat = record { code = 0; records = record_at s seat ∷ []; seats = seats_after s seat }
 
-abbrev pub stays : ℕ → Seats → TurnTold
-stays code s = record { code = code; records = []; seats = s }
-
 -- "one turn takes one command from the next waiting seat ..; with none waiting it does nothing"
 unfoldable pub turn_at : Seats → TurnTold
 turn_at s = cond (seats_sound s) (cond (nat_lt (next_of s) 4) (served_at s (next_of s)) (stays 0 s)) (stays 27 s)
@@ -72,14 +60,19 @@ pub record PassedTold : Type 0 where
   pub handed : List Kind
   pub codes : List ℕ
 
-abbrev pub passed_of : Passed → PassedTold
-passed_of r =
+-- A second that seats do not pass, for their state is not sound.
+abbrev pub passed_not : Seats → PassedTold
+passed_not s = record { told = plain 27; seats = s; handed = []; codes = [] }
+
+abbrev pub passed_of : Seats → Result Passed Unsound → PassedTold
+passed_of s (Ok r) =
     record {
-      told = verdict_of r.verdict;
+      told = plain 0;
       seats = r.seats;
       handed = kinds_in r.group;
       codes = take r.group.count r.codes;
     }
+passed_of s (Err unsound) = passed_not s
 
 abbrev pub passed_as : Seats → SecondTold → PassedTold
 passed_as s r =
@@ -89,9 +82,6 @@ passed_as s r =
       handed = r.handed;
       codes = r.codes;
     }
-
-abbrev pub passed_not : Seats → PassedTold
-passed_not s = record { told = plain 27; seats = s; handed = []; codes = [] }
 
 unfoldable pub second_at : Seats → PassedTold
 second_at s = cond (seats_sound s) (passed_as s (passing.second_at s.bench)) (passed_not s)

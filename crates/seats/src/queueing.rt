@@ -1,66 +1,57 @@
-// Queueing a command from bytes: what the seat and the bytes alone say, then whether there is room in the seat's queue.
+//! Queueing a command from bytes: what the seat and the bytes alone say, then whether there is room in the seat's queue.
 ghost use Rattle.std.specs.Prelude.{◌≡◌, ◌<◌};
 ghost use Rattle.seats.specs.Queues.{entered_in};
-ghost use Rattle.seats.specs.Queueing.{entry_told, front_of, front_at, queued_of, room_for, queue_at};
+ghost use Rattle.seats.specs.Queueing.{refusal_told, front_of, front_at, queued_of, room_for, queue_at};
+ghost use Rattle.seats.specs.declared.queueing.Refusal.TheVariants.{Misread};
 
 use super::{LONGEST, Queue, SEATS, Seats};
-use bench::{Command, Reading, Refusal, Told, Verdict};
+use bench::{Command, Tell, Told};
 
-// What queueing answers.
-#[derive(Clone, Copy)]
-pub enum Entry {
-    Taken,
+/// Why a command is not queued: 27 for seats that are not sound, 51 for a seat above 3, a code of the wire (1 to 10), 53 where more bytes follow the
+/// command, or 52 where 32 commands wait for the seat. Rules: "Four seats, one bench".
+#[derive(Clone, Copy, Debug, PartialEq, Eq)]
+pub enum Refusal {
     Unsound,
     NoSeat,
-    Misread(Refusal),
+    Misread(bench::Refusal),
     BytesFollow,
     Full,
 }
 
-// A command queued: the seats afterwards, and the answer.
-#[derive(Clone, Copy)]
-pub struct Queued {
-    pub seats: Seats,
-    pub entry: Entry,
+impl From<bench::Refusal> for Refusal {
+    ghost from_gives = { λ misread refusal. refusal ≡ Misread misread };
+
+    fn from(misread: bench::Refusal) -> Refusal {
+        Refusal::Misread(misread)
+    }
 }
 
-// What the seat and the bytes alone say.
-#[derive(Drop)]
-enum Front {
-    Takes(Command),
-    Refuses(Entry),
-}
+impl Tell for Refusal {
+    ghost told = { refusal_told };
 
-// The code of an answer, and what was wrong with the number.
-pub fn told_of(entry: Entry) -> Told
-    ensures { result ≡ entry_told entry }
-{
-    match entry {
-        Entry::Taken => bench::plain(0),
-        Entry::Unsound => bench::plain(27),
-        Entry::NoSeat => bench::plain(51),
-        Entry::Misread(refusal) => bench::told_of(Verdict::Misread(refusal)),
-        Entry::BytesFollow => bench::plain(53),
-        Entry::Full => bench::plain(52),
+    fn told(&self) -> Told {
+        match self {
+            Refusal::Unsound => bench::plain(27),
+            Refusal::NoSeat => bench::plain(51),
+            Refusal::Misread(misread) => misread.told(),
+            Refusal::BytesFollow => bench::plain(53),
+            Refusal::Full => bench::plain(52),
+        }
     }
 }
 
 // 51, 1 to 10, 53: on the seat and the bytes alone.
-fn front_of(seat: u8, bytes: &[u8]) -> Front
+fn front_of(seat: u8, bytes: &[u8]) -> Result<Command, Refusal>
     ensures { front_of result ≡ front_at seat bytes.now }
 {
     if SEATS <= seat {
-        return Front::Refuses(Entry::NoSeat);
+        return Err(Refusal::NoSeat);
     }
-    match bench::read_command(bytes) {
-        Reading::Refused(refusal) => Front::Refuses(Entry::Misread(refusal)),
-        Reading::Taken(command) => {
-            if bench::span(bytes) < bytes.len() {
-                return Front::Refuses(Entry::BytesFollow);
-            }
-            Front::Takes(command)
-        }
+    let command = bench::read_command(bytes)?;
+    if bench::span(bytes) < bytes.len() {
+        return Err(Refusal::BytesFollow);
     }
+    Ok(command)
 }
 
 // A queue with one command more.
@@ -73,46 +64,37 @@ fn entered_in(queue: Queue, command: Command) -> Queue
     Queue {
         commands,
         count: queue.count + 1,
-        queued: std::num::wrapping_add_u32(queue.queued, 1),
+        queued: queue.queued.wrapping_add(1),
     }
 }
 
 impl Seats {
     // A command enters the queue of its seat: 52 where 32 wait.
-    fn entered(self, seat: u8, command: Command) -> Queued
+    fn entered(self, seat: u8, command: Command) -> Result<Seats, Refusal>
         requires { seat < 4 }
-        ensures { queued_of result ≡ room_for self seat command }
+        ensures { queued_of self result ≡ room_for self seat command }
     {
-        let at = seat as usize;
         let mut queues = self.queues;
-        let queue = queues[at];
-        if (queue.count as usize) < LONGEST {
-            queues[at] = entered_in(queue, command);
-            let seats = Seats { queues, ..self };
-            return Queued {
-                seats,
-                entry: Entry::Taken,
-            };
+        let queue = queues[seat as usize];
+        if LONGEST <= queue.count as usize {
+            return Err(Refusal::Full);
         }
-        Queued {
-            seats: self,
-            entry: Entry::Full,
-        }
+        queues[seat as usize] = entered_in(queue, command);
+        Ok(Seats { queues, ..self })
     }
 
-    // A command from bytes: 27, 51, 1 to 10, 53, 52.
-    pub fn queue(self, seat: u8, bytes: &[u8]) -> Queued
-        ensures { queued_of result ≡ queue_at self seat bytes.now }
+    /// The seats behind which one command from bytes waits: it goes behind those of its seat. A refused one gets no number and changes nothing.
+    ///
+    /// # Errors
+    ///
+    /// 27, 51, 1 to 10, 53, 52. Rules: "Four seats, one bench".
+    pub fn queue(self, seat: u8, bytes: &[u8]) -> Result<Seats, Refusal>
+        ensures { queued_of self result ≡ queue_at self seat bytes.now }
     {
         if !self.is_sound() {
-            return Queued {
-                seats: self,
-                entry: Entry::Unsound,
-            };
+            return Err(Refusal::Unsound);
         }
-        match front_of(seat, bytes) {
-            Front::Refuses(entry) => Queued { seats: self, entry },
-            Front::Takes(command) => self.entered(seat, command),
-        }
+        let command = front_of(seat, bytes)?;
+        self.entered(seat, command)
     }
 }

@@ -1,42 +1,22 @@
-// A turn: the oldest command of the next waiting seat is carried out on the shared bench and leaves its queue, and a record tells of it.
-ghost use Rattle.std.specs.Prelude.{◌≡◌, ◌<◌, true, if◌then◌else◌};
+//! A turn: the oldest command of the next waiting seat is carried out on the shared bench and leaves its queue, and a record tells of it.
+ghost use Rattle.std.specs.Prelude.{◌≡◌, ◌<◌, true, unwrap_or, IfSome, if◌then◌else◌};
 ghost use Rattle.bench.specs.Exports.{record_bytes};
 ghost use Rattle.bench.specs.Status.{bench_sound};
 ghost use Rattle.seats.specs.Queues.{shifted_of, served_in, number_of};
 ghost use Rattle.seats.specs.State.{waits, next_after};
-ghost use Rattle.seats.specs.Turn.{served_code, turned_of, record_shown, without, served_at, stays, turn_at};
+ghost use Rattle.seats.specs.Turn.{turned_of, served_of, served_at, stays, turn_at};
 
 use super::{LONGEST, Queue, SEATS, Seats};
-use bench::Command;
+use bench::{Command, Unsound};
 
-// The code of a state that is not sound.
+// The code of a state that is not sound. A turn asks for its command's code anyway, for the record, so it tells by this what the bench has judged.
 const UNSOUND: u8 = 27;
 
-// What a turn answers: the state was not sound, nobody waited, or a command was carried out.
-#[derive(Clone, Copy)]
-pub enum Served {
-    Unsound,
-    Nobody,
-    One,
-}
-
-// A turn taken: the seats afterwards, the answer, and the bytes of the record of the command that was carried out; zeros where there was none.
+/// A turn in which a command was carried out: the seats afterwards, and the 12 bytes of the command's record.
 #[derive(Clone, Copy)]
 pub struct Turned {
     pub seats: Seats,
-    pub served: Served,
-    pub bytes: [u8; 12],
-}
-
-// The code of a turn's answer. (That of the command stands in the record.)
-pub fn code_of(served: Served) -> u8
-    ensures { result ≡ served_code served }
-{
-    match served {
-        Served::Unsound => UNSOUND,
-        Served::Nobody => 0,
-        Served::One => 0,
-    }
+    pub record: [u8; 12],
 }
 
 // The record of a turn. A queued command passed 1 to 10, so it has neither parameter nor value.
@@ -44,21 +24,16 @@ fn record_of(seat: u8, code: u8, number: u32) -> [u8; 12]
     ensures { result ≡ record_bytes seat code 0 number 0 }
 {
     let mut record: [u8; 12] = [0; 12];
-    bench::put_record(&mut record, seat, code, 0, number, 0);
+    let _ = bench::put_record(&mut record, seat, code, 0, number, 0);
     record
 }
 
 // The commands behind the first.
-fn shifted(commands: [Command; 32]) -> [Command; 32]
-    ensures { result ≡ shifted_of commands }
+fn shifted(commands: &[Command; 32]) -> [Command; 32]
+    ensures { result ≡ shifted_of commands.now }
 {
-    let mut next = commands;
-    let mut i: usize = 0;
-    while i < LONGEST - 1 {
-        let command = commands[i + 1];
-        next[i] = command;
-        i += 1;
-    }
+    let mut next = *commands;
+    next[..LONGEST - 1].copy_from_slice(&commands[1..]);
     next
 }
 
@@ -67,12 +42,10 @@ fn served_in(queue: Queue) -> Queue
     requires { 0 < queue.count }
     ensures { result ≡ served_in queue }
 {
-    let commands = queue.commands;
-    let commands = shifted(commands);
     Queue {
-        commands,
+        commands: shifted(&queue.commands),
         count: queue.count - 1,
-        queued: queue.queued,
+        ..queue
     }
 }
 
@@ -80,105 +53,67 @@ fn served_in(queue: Queue) -> Queue
 fn number_of(queued: u32, count: u8) -> u32
     ensures { result ≡ number_of queued count }
 {
-    std::num::wrapping_add_u32(std::num::wrapping_sub_u32(queued, count as u32), 1)
+    queued.wrapping_sub(count as u32).wrapping_add(1)
 }
 
-// The next waiting seat after the last served; SEATS where none waits.
-fn next_waiting(queues: [Queue; 4], last: u8) -> u8
+// The next waiting seat after the last served, if any.
+fn next_waiting(queues: &[Queue; 4], last: u8) -> Option<u8>
     requires { last < 4 }
-    ensures { result ≡ next_after queues last }
+    ensures seat_value { unwrap_or result 4 ≡ next_after queues.now last }
+    ensures one_of_four { IfSome result (λ seat. seat < 4) }
 {
-    let a = (last + 1) % SEATS;
-    let queue = queues[a as usize];
-    if 0 < queue.count {
-        return a;
+    for step in 0..SEATS {
+        let seat = (last + 1 + step) % SEATS;
+        if 0 < queues[seat as usize].count {
+            return Some(seat);
+        }
     }
-    let b = (last + 2) % SEATS;
-    let queue = queues[b as usize];
-    if 0 < queue.count {
-        return b;
-    }
-    let c = (last + 3) % SEATS;
-    let queue = queues[c as usize];
-    if 0 < queue.count {
-        return c;
-    }
-    let queue = queues[last as usize];
-    if 0 < queue.count {
-        return last;
-    }
-    SEATS
-}
-
-// A turn in which no command was carried out.
-fn without(seats: Seats, served: Served) -> Turned
-    ensures { result ≡ without seats served }
-{
-    Turned {
-        seats,
-        served,
-        bytes: [0; 12],
-    }
+    None
 }
 
 impl Seats {
-    // Nobody waits: 27 where the bench is not sound.
-    fn idle(self) -> Turned
-        ensures result_value { turned_of result ≡ (if bench_sound self.bench then stays 0 self else stays 27 self) }
-        ensures bytes_value { result.bytes ≡ record_shown (turned_of result).records }
-    {
-        let bench = self.bench;
-        if bench.is_sound() {
-            return without(self, Served::Nobody);
-        }
-        without(self, Served::Unsound)
-    }
-
     // The oldest command of a waiting seat is carried out: 27 where the bench is not sound, by its own judgement.
-    fn serve(self, seat: u8) -> Turned
+    fn serve(self, seat: u8) -> Result<Turned, Unsound>
         requires { (seat < 4) × (waits self.queues seat ≡ true) }
-        ensures result_value { turned_of result ≡ (if bench_sound self.bench then served_at self seat else stays 27 self) }
-        ensures bytes_value { result.bytes ≡ record_shown (turned_of result).records }
+        ensures { served_of self result ≡ (if bench_sound self.bench then served_at self seat else stays 27 self) }
     {
-        let at = seat as usize;
         let mut queues = self.queues;
-        let queue = queues[at];
-        let command = queue.commands[0];
-        let bench = self.bench;
-        let carried = bench.carry_out(command);
-        let verdict = carried.verdict;
-        let told = bench::told_of(verdict);
-        if told.code == UNSOUND {
-            return without(self, Served::Unsound);
+        let queue = queues[seat as usize];
+        let carried = self.bench.carry_out(queue.commands[0]);
+        let code = bench::told_of(&carried).code;
+        if code == UNSOUND {
+            return Err(Unsound);
         }
         let number = number_of(queue.queued, queue.count);
-        queues[at] = served_in(queue);
-        let bench = carried.bench;
+        queues[seat as usize] = served_in(queue);
         let seats = Seats {
-            bench,
+            bench: carried.unwrap_or(self.bench),
             queues,
             last: seat,
         };
-        Turned {
+        Ok(Turned {
             seats,
-            served: Served::One,
-            bytes: record_of(seat, told.code, number),
-        }
+            record: record_of(seat, code, number),
+        })
     }
 
-    // A turn: 27; else the next waiting seat after the last served. The bench is judged once.
-    pub fn turn(self) -> Turned
-        ensures result_value { turned_of result ≡ turn_at self }
-        ensures bytes_value { result.bytes ≡ record_shown (turn_at self).records }
+    /// A turn: the oldest command of the next waiting seat after the last served is carried out and leaves its queue, whatever its code. Where nobody
+    /// waits nothing is done, and there is no record.
+    ///
+    /// # Errors
+    ///
+    /// 27 where the seats are not sound. Rules: "Four seats, one bench".
+    // The bench is judged once.
+    pub fn turn(self) -> Result<Option<Turned>, Unsound>
+        ensures { turned_of self result ≡ turn_at self }
     {
         if !self.obeys() {
-            return without(self, Served::Unsound);
+            return Err(Unsound);
         }
-        let queues = self.queues;
-        let seat = next_waiting(queues, self.last);
-        if SEATS <= seat {
-            return self.idle();
+        match next_waiting(&self.queues, self.last) {
+            Some(seat) => Ok(Some(self.serve(seat)?)),
+            None if self.bench.is_sound() => Ok(None),
+            None => Err(Unsound),
         }
-        self.serve(seat)
     }
 }

@@ -1,17 +1,16 @@
-// The item in which a seat queues a command: 01.
+//! The item in which a seat queues a command: 01.
 use super::items::State;
 use script::output;
-use seats::Entry;
+use seats::Told;
 
-fn queued_line(out: &mut [u8], used: usize, entry: Entry) -> usize {
+fn queued_line(out: &mut [u8], used: usize, told: Told) -> usize {
     let used = output::text(out, used, b"queued");
-    let used = tellings::told(out, used, seats::told_of(entry));
+    let used = tellings::told(out, used, told);
     output::end(out, used)
 }
 
-// 01, a seat and the bytes of a command: `queued CODE PAR VALUE LOW HIGH`.
+/// 01, a seat and the bytes of a command: `queued CODE PAR VALUE LOW HIGH`.
 pub fn queue(state: State, s: &[u8], out: &mut [u8]) -> State {
-    let seats = state.seats;
     let place = state.place;
     let seat = script::take(s, place.at, 1);
     let bytes = script::take_short(s, seat.to);
@@ -19,10 +18,10 @@ pub fn queue(state: State, s: &[u8], out: &mut [u8]) -> State {
         return state.went_on(place.bad(out));
     }
     let seat = words::byte_at(s, seat.from);
-    let queued = seats.queue(seat, script::bytes(s, bytes));
-    let entry = queued.entry;
-    let used = queued_line(out, place.used, entry);
-    let seats = queued.seats;
-    let place = place.answered(bytes.to, used);
-    State { seats, place }
+    let queued = state.seats.queue(seat, script::bytes(s, bytes));
+    let used = queued_line(out, place.used, seats::told_of(&queued));
+    State {
+        seats: queued.unwrap_or(state.seats),
+        place: place.answered(bytes.to, used),
+    }
 }

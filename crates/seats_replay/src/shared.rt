@@ -1,25 +1,28 @@
-// The items of the shared bench: 00 lets a second pass, 02 prints the status frame.
+//! The items of the shared bench: 00 lets a second pass, 02 prints the status frame.
 use super::items::State;
 use script::Place;
 
-// 00: `second CODE N`, and a line `handed CODE NAME ARGS` for each of the N entries.
+/// 00: `second CODE N`, and a line `handed CODE NAME ARGS` for each of the N entries.
 pub fn second(state: State, out: &mut [u8]) -> State {
-    let seats = state.seats;
     let place = state.place;
-    let passed = seats.second();
-    let verdict = passed.verdict;
-    let group = passed.group;
-    let codes = passed.codes;
-    let used = answers::second(out, place.used, verdict, group, &codes);
-    let seats = passed.seats;
-    let place = place.answered(place.at, used);
-    State { seats, place }
+    match state.seats.second() {
+        Ok(passed) => {
+            let used = answers::second(out, place.used, &passed.group, &passed.codes);
+            State {
+                seats: passed.seats,
+                place: place.answered(place.at, used),
+            }
+        }
+        Err(unsound) => {
+            let used = answers::no_second(out, place.used, unsound);
+            state.went_on(place.answered(place.at, used))
+        }
+    }
 }
 
-// 02: `status` and the bytes of the frame, or `status CODE`.
-pub fn status(state: State, out: &mut [u8]) -> Place {
-    let seats = state.seats;
+/// 02: `status` and the bytes of the frame, or `status CODE`.
+pub fn status(state: &State, out: &mut [u8]) -> Place {
     let place = state.place;
-    let used = answers::status(out, place.used, seats.status());
+    let used = answers::status(out, place.used, &state.seats.status());
     place.answered(place.at, used)
 }

@@ -1,12 +1,12 @@
-// The jobs of the four seats that `speed/` measures, in a library by themselves: beside those of `timing` the compiler would no longer put what decides
-// and carries out a command into the loop of a run, for a turn asks for the same (speed/README.md). Each job does as those do, and folds as they fold.
+//! The jobs of the four seats that `speed/` measures, in a library by themselves: beside those of `timing` the compiler would no longer put what decides
+//! and carries out a command into the loop of a run, for a turn asks for the same (speed/README.md). Each job does as those do, and folds as they fold.
 #![tactic(auto)]
 
 use bench::Bench;
 use camera::Camera;
-use seats::{Queue, Seats, Served};
+use seats::{Code, Queue, Seats, Turned, Unsound};
 use store::Store;
-use timing::{command_of, mixed, with_bench, with_byte, with_command, with_told};
+use timing::{Folded, command_of, mixed, with_bench, with_byte};
 use wire::Command;
 
 // How far apart the events of the seats begin, and where their parts lie (speed/plain.h): the seat, how many bytes are queued or commands wait, the bytes.
@@ -34,71 +34,57 @@ const X_AT: usize = 2;
 
 const CLOSED_AT: usize = 4;
 
+// A command that nothing has judged.
+const FLUSH: Command = Command {
+    flag: false,
+    kind: wire::Kind::TlmFlush,
+};
+
 fn with_bytes(sum: u64, bytes: &[u8]) -> u64 {
     let mut sum = sum;
-    let mut i: usize = 0;
-    while i < bytes.len() {
-        sum = with_byte(sum, bytes[i]);
-        i += 1;
+    for &byte in bytes {
+        sum = with_byte(sum, byte);
     }
     sum
 }
 
 // A command that waits, by its opcode too, as some kinds have no arguments.
 fn with_waiting(sum: u64, command: Command) -> u64 {
-    let kind = command.kind;
-    let parts = wire::parts_of(kind);
-    let form = parts.form;
-    let row = wire::row_of(form);
-    mixed(with_command(sum, command), row.opcode as u64)
+    let row = wire::row_of(wire::parts_of(command.kind).form);
+    mixed(command.folded(sum), u64::from(row.opcode))
 }
 
 // How many commands wait, how many were queued so far, and each that waits.
-fn with_queue(sum: u64, queue: Queue) -> u64 {
-    let commands = queue.commands;
-    let count = queue.count as usize;
-    let mut sum = mixed(mixed(sum, queue.count as u64), queue.queued as u64);
-    let mut i: usize = 0;
-    while i < seats::LONGEST {
-        if i < count {
-            let command = commands[i];
-            sum = with_waiting(sum, command);
-        }
-        i += 1;
+fn with_queue(sum: u64, queue: &Queue) -> u64 {
+    let mut sum = mixed(mixed(sum, u64::from(queue.count)), u64::from(queue.queued));
+    for &command in queue.commands.iter().take(queue.count as usize) {
+        sum = with_waiting(sum, command);
     }
     sum
 }
 
 // The seat that was served last, the four queues, and the shared bench.
-fn with_seats(sum: u64, seats: Seats) -> u64 {
-    let queues = seats.queues;
-    let bench = seats.bench;
-    let zero = queues[0];
-    let one = queues[1];
-    let two = queues[2];
-    let three = queues[3];
-    let sum = mixed(sum, seats.last as u64);
-    let sum = with_queue(with_queue(sum, zero), one);
-    with_bench(with_queue(with_queue(sum, two), three), bench)
+fn with_seats(sum: u64, seats: &Seats) -> u64 {
+    let mut sum = mixed(sum, u64::from(seats.last));
+    for queue in &seats.queues {
+        sum = with_queue(sum, queue);
+    }
+    with_bench(sum, seats.bench)
 }
 
 // What a turn answers: its code, whether a command was carried out, and then the record.
-fn with_served(sum: u64, served: Served, bytes: &[u8]) -> u64 {
-    let sum = mixed(sum, seats::code_of(served) as u64);
-    match served {
-        Served::Unsound => mixed(sum, 0),
-        Served::Nobody => mixed(sum, 0),
-        Served::One => with_bytes(mixed(sum, 1), bytes),
+fn with_served(sum: u64, turned: &Result<Option<Turned>, Unsound>) -> u64 {
+    match turned {
+        Ok(Some(turned)) => with_bytes(mixed(mixed(sum, 0), 1), &turned.record),
+        Ok(None) => mixed(mixed(sum, 0), 0),
+        Err(unsound) => mixed(mixed(sum, u64::from(unsound.code())), 0),
     }
 }
 
 // The bytes that an event queues, as many as it says.
-fn queued_bytes<'a>(event: &'a [u8]) -> &'a [u8] {
+fn queued_bytes(event: &[u8]) -> &[u8] {
     let end = BYTES_AT + words::byte_at(event, SIZE_AT) as usize;
-    if event.len() < end {
-        return event;
-    }
-    &event[BYTES_AT..end]
+    event.get(BYTES_AT..end).unwrap_or(event)
 }
 
 // Where the command begins that waits at this place of a seat's queue: the first event is seat 0's, the second seat 1's, and so on.
@@ -108,139 +94,117 @@ fn waiting_at(place: u8, seat: u8) -> usize {
 
 // The queue of a seat for which its commands of these events wait.
 fn queue_of(events: &[u8], seat: u8) -> Queue {
-    let none = Command {
-        flag: false,
-        kind: wire::Kind::TlmFlush,
-    };
-    let mut commands = [none; 32];
+    let mut commands = [FLUSH; 32];
     let mut count: u8 = 0;
-    while (count as usize) < seats::LONGEST {
-        let at = waiting_at(count, seat);
+    for place in 0..32 {
+        let at = waiting_at(place, seat);
         if events.len() <= at {
             break;
         }
-        commands[count as usize] = command_of(&events[at..]);
-        count += 1;
+        commands[place as usize] = command_of(&events[at..]);
+        count = place + 1;
     }
     Queue {
         commands,
         count,
-        queued: count as u32,
+        queued: u32::from(count),
     }
 }
 
 // Four seats on a fresh bench, for which the commands of these events wait.
 fn seats_with(events: &[u8]) -> Seats {
-    let zero = queue_of(events, 0);
-    let one = queue_of(events, 1);
-    let two = queue_of(events, 2);
-    let three = queue_of(events, 3);
-    let seats = Seats::fresh();
     Seats {
-        queues: [zero, one, two, three],
-        ..seats
+        queues: [
+            queue_of(events, 0),
+            queue_of(events, 1),
+            queue_of(events, 2),
+            queue_of(events, 3),
+        ],
+        ..Seats::fresh()
     }
 }
 
-// Seats after some work, and what came out of it folded into one number.
+/// Seats after some work, and what came out of it folded into one number.
 #[derive(Clone, Copy)]
 pub struct LaterSeats {
     pub seats: Seats,
     pub sum: u64,
 }
 
-// The command of each event is queued.
-fn queueing(seats: Seats, sum: u64, events: &[u8]) -> LaterSeats {
-    let count = events.len() / EVENT;
-    let mut seats = seats;
-    let mut sum = sum;
-    let mut i: usize = 0;
-    while i < count {
-        let at = i * EVENT;
-        i += 1;
-        let seat = words::byte_at(events, at + SEAT_AT);
-        let queued = seats.queue(seat, queued_bytes(&events[at..]));
-        seats = queued.seats;
-        let entry = queued.entry;
-        sum = with_told(sum, seats::told_of(entry));
+// The command of an event is queued; a refused one leaves the seats.
+fn queued_at(seats: Seats, sum: u64, event: &[u8]) -> LaterSeats {
+    let queued = seats.queue(words::byte_at(event, SEAT_AT), queued_bytes(event));
+    LaterSeats {
+        sum: seats::told_of(&queued).folded(sum),
+        seats: queued.unwrap_or(seats),
     }
-    LaterSeats { seats, sum }
 }
 
-// So many times over, the commands of all events are queued where those of the first list wait; then the last seats.
+// The command of each event is queued.
+fn queueing(seats: Seats, sum: u64, events: &[u8]) -> LaterSeats {
+    let mut later = LaterSeats { seats, sum };
+    for i in 0..events.len() / EVENT {
+        later = queued_at(later.seats, later.sum, &events[i * EVENT..]);
+    }
+    later
+}
+
+/// So many times over, the commands of all events are queued where those of the first list wait; then the last seats.
 pub fn timing_queue(waiting: &[u8], events: &[u8], times: u32) -> u64 {
     let start = seats_with(waiting);
     let mut last = start;
     let mut sum: u64 = 0;
-    let mut i: u32 = 0;
-    while i < times {
+    for _ in 0..times {
         let done = queueing(start, sum, events);
         last = done.seats;
         sum = done.sum;
-        i += 1;
     }
-    with_seats(sum, last)
+    with_seats(sum, &last)
+}
+
+// A turn is taken; where none was served the seats stay.
+fn turned_at(seats: Seats, sum: u64) -> LaterSeats {
+    let turned = seats.turn();
+    let sum = with_served(sum, &turned);
+    match turned {
+        Ok(Some(turned)) => LaterSeats {
+            seats: turned.seats,
+            sum,
+        },
+        _ => LaterSeats { seats, sum },
+    }
 }
 
 // So many turns are taken.
 fn turning(seats: Seats, sum: u64, turns: u32) -> LaterSeats {
-    let mut seats = seats;
-    let mut sum = sum;
-    let mut i: u32 = 0;
-    while i < turns {
-        let turned = seats.turn();
-        seats = turned.seats;
-        let served = turned.served;
-        let bytes = turned.bytes;
-        sum = with_served(sum, served, &bytes);
-        i += 1;
+    let mut later = LaterSeats { seats, sum };
+    for _ in 0..turns {
+        later = turned_at(later.seats, later.sum);
     }
-    LaterSeats { seats, sum }
+    later
 }
 
-// So many times over, so many turns are taken where the commands of these events wait; then the last seats.
+/// So many times over, so many turns are taken where the commands of these events wait; then the last seats.
 pub fn timing_turn(waiting: &[u8], turns: u32, times: u32) -> u64 {
     let start = seats_with(waiting);
     let mut last = start;
     let mut sum: u64 = 0;
-    let mut i: u32 = 0;
-    while i < times {
+    for _ in 0..times {
         let done = turning(start, sum, turns);
         last = done.seats;
         sum = done.sum;
-        i += 1;
     }
-    with_seats(sum, last)
-}
-
-fn queued_at(seats: Seats, sum: u64, event: &[u8]) -> LaterSeats {
-    let queued = seats.queue(words::byte_at(event, SEAT_AT), queued_bytes(event));
-    let seats = queued.seats;
-    let entry = queued.entry;
-    let sum = with_told(sum, seats::told_of(entry));
-    LaterSeats { seats, sum }
-}
-
-fn turned_at(seats: Seats, sum: u64) -> LaterSeats {
-    let turned = seats.turn();
-    let seats = turned.seats;
-    let served = turned.served;
-    let bytes = turned.bytes;
-    let sum = with_served(sum, served, &bytes);
-    LaterSeats { seats, sum }
+    with_seats(sum, &last)
 }
 
 // A command of this opcode, flag and arguments, which nothing has judged; a flush where there is no such opcode.
 fn unjudged(opcode: u16, flag: bool, first: u32, second: u32) -> Command {
     match wire::rule_of(opcode) {
-        wire::Found::Unknown => Command {
+        Some((form, _)) => Command {
             flag,
-            kind: wire::Kind::TlmFlush,
+            kind: wire::kind_of(form, first, second),
         },
-        wire::Found::Known(form, _) => {
-            let kind = wire::kind_of(form, first, second);
-            Command { flag, kind }
-        }
+        None => Command { flag, ..FLUSH },
     }
 }
 
@@ -267,27 +231,26 @@ fn changed_queue(queue: Queue, event: &[u8]) -> Queue {
 fn with_changed_queue(seats: Seats, event: &[u8]) -> Seats {
     let mut queues = seats.queues;
     let at = (words::byte_at(event, SEAT_AT) % seats::SEATS) as usize;
-    let queue = queues[at];
-    queues[at] = changed_queue(queue, event);
+    queues[at] = changed_queue(queues[at], event);
     Seats { queues, ..seats }
 }
 
 // Another seat was served last, the camera has another X, and macro 0 is closed or not.
 fn with_changed_bench(seats: Seats, event: &[u8]) -> Seats {
-    let bench = seats.bench;
-    let camera = bench.camera;
     let camera = Camera {
         x: words::half_at(event, X_AT),
-        ..camera
+        ..seats.bench.camera
     };
-    let store = bench.store;
-    let mut closed = store.closed;
+    let mut closed = seats.bench.store.closed;
     closed[0] = words::byte_at(event, CLOSED_AT) == 1;
-    let store = Store { closed, ..store };
+    let store = Store {
+        closed,
+        ..seats.bench.store
+    };
     let bench = Bench {
         camera,
         store,
-        ..bench
+        ..seats.bench
     };
     Seats {
         bench,
@@ -312,18 +275,14 @@ fn happened(seats: Seats, sum: u64, event: &[u8]) -> LaterSeats {
     }
 }
 
-// Four seats on a fresh bench, and all these events one after another; the whole state behind each.
+/// Four seats on a fresh bench, and all these events one after another; the whole state behind each.
 pub fn timing_seats(events: &[u8]) -> u64 {
-    let count = events.len() / EVENT;
     let mut seats = Seats::fresh();
     let mut sum: u64 = 0;
-    let mut i: usize = 0;
-    while i < count {
-        let at = i * EVENT;
-        let later = happened(seats, sum, &events[at..]);
+    for i in 0..events.len() / EVENT {
+        let later = happened(seats, sum, &events[i * EVENT..]);
         seats = later.seats;
-        sum = with_seats(later.sum, seats);
-        i += 1;
+        sum = with_seats(later.sum, &seats);
     }
     sum
 }

@@ -1,8 +1,7 @@
 -- `Seats::status` meets its contract: the seats' own rules, then as the bench has it.
-use Rattle.std.proofs.Common.{◌∙◌}
+use Rattle.std.proofs.Common.{ap, ◌∙◌}
 use Rattle.bench.proofs.Exports.{fails, holds}
 use Rattle.seats.proofs.States.{bad_rules, status_unsound, status_by}
-use mathlib.Core.Path.{ap}
 use mathlib.Core.Bool.{not}
 use Rattle.seats.proofs.Seats.status.Goals as goal
 

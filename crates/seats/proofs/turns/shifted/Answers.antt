@@ -1,10 +1,11 @@
--- `shifted` meets its contract: the first i places hold what stood behind them.
-use Rattle.std.proofs.Common.{◌-◌, arith}
-use Rattle.seats.proofs.Laws.{shift_step}
+-- `shifted` meets its contract: the places but the last take what stood behind them.
+use Rattle.std.proofs.Common.{arith, drop, length-take, length-drop}
 use Rattle.seats.proofs.turns.shifted.Goals as goal
 
-pub loop-i-preserved : goal.loop-i-preserved
-loop-i-preserved c =
-    let at = c.loop-i in
-    let inv = at.invariant in
-    (inv.0, omega arith, shift_step c.args.commands at.next at.i inv.0 (omega arith) inv.2)
+pub slice_bounds-copy_from_slice-length : goal.slice_bounds-copy_from_slice-length
+slice_bounds-copy_from_slice-length c = omega (arith, c.told-commands, length-take 31 c.args.commands.now)
+
+pub copy_from_slice-requires : goal.copy_from_slice-requires
+copy_from_slice-requires c =
+    let behind = length-take 31 (drop 1 c.args.commands.now) in
+    omega (arith, c.told-commands, length-take 31 c.args.commands.now, behind, length-drop 1 c.args.commands.now)
