@@ -10,6 +10,7 @@ use bench::{Command, Kind};
 pub const LONGEST: usize = 32;
 
 /// The commands that wait, how many they are, and how many the seat has queued so far, modulo 2^32.
+// The count stands beside the places, and the type rules no count out: a state that comes from outside is judged by `holds` (docs/PROMISES.md).
 #[derive(Clone, Copy)]
 pub struct Queue {
     pub commands: [Command; 32],
