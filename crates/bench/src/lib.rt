@@ -20,7 +20,8 @@ mod lists;
 
 use camera::{Camera, Series};
 use deciding::{decide, decide_bytes};
-use frame::{Frame, Pace};
+pub use frame::Frame;
+use frame::Pace;
 use housekeeping::Housekeeping;
 pub use lists::{Ran, RunRefusal, TypedRefusal, finding_of};
 use report::Latest;
