@@ -1,9 +1,0 @@
--- `passing` is safe and ends. The loop counts up to its bound.
-use Rattle.std.proofs.Common.{◌-◌, ◌≤◌}
-use Rattle.timing.proofs.passing.Given as goal
-
-abbrev pub invariant-loop-i : goal.invariant-loop-i
-invariant-loop-i l = l.i ≤ l.seconds
-
-abbrev pub decreases-loop-i : goal.decreases-loop-i
-decreases-loop-i l = l.seconds - l.i

@@ -1,9 +1,0 @@
--- `timing_look_up` is safe and ends. The loop counts up to its bound.
-use Rattle.std.proofs.Common.{◌-◌, ◌≤◌}
-use Rattle.timing.proofs.timing_look_up.Given as goal
-
-abbrev pub invariant-loop-i : goal.invariant-loop-i
-invariant-loop-i l = l.i ≤ l.times
-
-abbrev pub decreases-loop-i : goal.decreases-loop-i
-decreases-loop-i l = l.times - l.i
