@@ -1,13 +1,13 @@
 -- The lister's one pass: what a command comes to, one turn, and the ends.
-use Prim.Native.Nat.{ℕ, zero, suc, ◌+◌, ◌*◌, ◌-◌, ◌≤◌, ◌<◌}
+use Prim.Native.Nat.{ℕ, zero, suc, ◌+◌, ◌*◌, ◌≤◌, ◌<◌}
 use mathlib.Core.Path.{◌≡◌, refl, sym, ap, ◌∙◌}
 use mathlib.Core.Logic.{◌↔◌}
 use mathlib.Core.List.{List, [], ◌∷◌, ◌++◌, map, append_assoc, append-nil}
 use mathlib.Core.Bool.{Bool, true, false, cond, not}
 use native.Mathlib.Omega.{arith}
 use native.Mathlib.Numerals.{add-one}
-use lib.ListN.{length, take, drop, length-append, length-drop, drop_of_length-le}
-use lib.Seq.{sets, sets-eq, length-sets, drop-drop, take_at, length-take-le}
+use lib.ListN.{length, take, drop, length-append, length-drop}
+use lib.Seq.{sets, sets-eq, length-sets, take_at, length-take-le}
 use lib.Dec.{eqb}
 use borrow.Author.Tests.{eq-eqb, eqb-true, eqb-false, lt-ltb, le-ltb}
 use Rattle.words.specs.BigEndian.{word_at, has_room, written}
@@ -19,7 +19,7 @@ use Rattle.std.specs.Prelude.{Option, Some, None}
 use Rattle.wire.specs.declared.kinds.Command.{Command}
 use Rattle.wire.specs.declared.judging.Refusal.{Refusal as WireRefusal}
 use Rattle.wire.specs.declared.judging.Told.{Told}
-use Rattle.std.specs.Prelude.{Ok, Err}
+use Rattle.std.specs.Prelude.{Result, Ok, Err}
 use Rattle.wire.specs.Table.{rule_of}
 use Rattle.wire.specs.Read.{Answer, answer_of, answer_for, opcode_of, flag_of, length_of, third_word, decode_checks, read_checks, read_code, read_of, said_parts, said, span_of}
 use Rattle.wire.specs.Write.{command_bytes}
@@ -28,9 +28,9 @@ use Rattle.wire.proofs.Answers.{refusal_code, reaches}
 use Rattle.wire.proofs.Local.{reached}
 use Rattle.wire.proofs.RoundTrip.{read_held, written_back}
 use Rattle.walk.specs.Walk.{rests}
-use Rattle.walk.proofs.Spans.{span_passed}
-use Rattle.walk.proofs.Rests.{behind, rests_none, rests_more}
-use Rattle.walk.proofs.Turns.{from_place, command_at}
+use Rattle.walk.proofs.Spans.{span_passed, span_within, span_some}
+use Rattle.walk.proofs.Rests.{behind, rests_more}
+use Rattle.walk.proofs.Turns.{turn}
 use Rattle.text.specs.declared.findings.Fault.{Fault}
 use Rattle.text.specs.declared.findings.Finding.{Finding}
 use Rattle.text.specs.Split.{line_feed}
@@ -169,13 +169,13 @@ unfolding list_text
 text_next s more =
     ap (λ l. list_text (map said l)) (rests_more s more) ∙ sym (append_assoc (line_text (said s)) (line_feed ∷ []) (text_of (behind s)))
 
-no_text : text_of [] ≡ []
+no_text_lines : list_text (map said []) ≡ []
 unfolding list_text
-no_text = ap (λ l. list_text (map said l)) rests_none
+no_text_lines = refl
 
-none_found : (number : ℕ) → first_found (command_findings number (rests [])) ≡ nothing
+none_found : (number : ℕ) → first_found (command_findings number []) ≡ nothing
 unfolding first_found command_findings
-none_found number = ap (λ rs. first_found (command_findings number rs)) rests_none
+none_found number = refl
 
 -- The judgement on a list by itself, in its three cases.
 module _ (raw : List ℕ) where
@@ -193,34 +193,35 @@ module _ (raw : List ℕ) where
     judged_fine end fine long = rw (le-ltb 4096 (length raw) short, fine, long)
 
 -- What is left of the list, listed from here on, gives what the whole gives.
-pub record Lining (raw room₀ room : List ℕ) (at number end : ℕ) : Type 0 where
-  pub within : at ≤ length raw
-  pub few : number ≤ at
-  pub half : end ≤ 2 * at
+pub record Lining (raw room₀ room left : List ℕ) (number end : ℕ) : Type 0 where
+  pub few : number + length left ≤ length raw
+  pub half : end + 2 * length left ≤ 2 * length raw
   pub same : length room ≡ length room₀
-  pub bad : first_found (command_findings (number + 1) (rests (drop at raw))) ≡ bad_command raw
-  pub text : take end room ++ text_of (drop at raw) ≡ text_of raw
+  pub bytes : Bytes left
+  pub bad : first_found (command_findings (number + 1) (rests left)) ≡ bad_command raw
+  pub text : take end room ++ text_of left ≡ text_of raw
 
-pub lining_none : (raw room : List ℕ) → Lining raw room room 0 0 0
-lining_none raw room = record { within = omega arith; few = omega arith; half = omega arith; same = refl; bad = refl; text = refl }
+pub lining_none : (raw room left : List ℕ) → Bytes raw → left ≡ raw → Lining raw room room left 0 0
+lining_none raw room left bytes is =
+    rw is (record { few = omega arith; half = omega arith; same = refl; bytes = bytes; bad = refl; text = refl })
 
-module _ (raw room₀ room : List ℕ) (at number end : ℕ) (lining : Lining raw room₀ room at number end) (short : length raw ≤ 4096) where
-  module _ (more : at < length raw) where
-    abbrev rest : List ℕ
-    rest = drop at raw
-
-    left : 0 < length rest
-    left = omega (arith, length-drop at raw)
+module _ (raw room₀ room left : List ℕ) (number end : ℕ) (lining : Lining raw room₀ room left number end) (short : length raw ≤ 4096) where
+  module _ (x next : List ℕ) (step : rests left ≡ x ∷ rests next) where
+    some : 0 < length left
+    some = (turn left x next step).some
 
     bad_here : bad_command raw
-        ≡ cond (eqb (list_told rest).code 0) (first_found (command_findings (suc (number + 1)) (rests (behind rest)))) (finding (list_told rest) (number + 1))
+        ≡ cond (eqb (list_told left).code 0) (first_found (command_findings (suc (number + 1)) (rests (behind left)))) (finding (list_told left) (number + 1))
     unfolding command_findings first_found
-    bad_here = sym lining.bad ∙ ap (λ rs. first_found (command_findings (number + 1) rs)) (rests_more rest left)
+    bad_here = sym lining.bad ∙ ap (λ rs. first_found (command_findings (number + 1) rs)) (rests_more left some)
 
-    pub turn_bad : (f : Fault) → offer_of (Err f) ≡ offered_at (take (length raw - at) rest) → Lined raw room (Err (Refusal.BadLine (number + 1) f))
+    offer : (o : Result Command Fault) → offer_of o ≡ offered_at x → offer_of o ≡ offered_at left
+    offer o e = e ∙ ap offered_at (turn left x next step).whole
+
+    pub turn_bad : (f : Fault) → offer_of (Err f) ≡ offered_at x → Lined raw room (Err (Refusal.BadLine (number + 1) f))
     turn_bad f e =
-        let told : told_fault f ≡ list_told rest = told_bad rest f (e ∙ ap offered_at (from_place raw at)) in
-        let late : eqb (list_told rest).code 0 ≡ false = ap (λ (t : Told). eqb t.code 0) (sym told) ∙ fault_code f in
+        let told : told_fault f ≡ list_told left = told_bad left f (offer (Err f) e) in
+        let late : eqb (list_told left).code 0 ≡ false = ap (λ (t : Told). eqb t.code 0) (sym told) ∙ fault_code f in
         let here : bad_command raw ≡ finding (told_fault f) (number + 1) = bad_here ∙ rw (late, ← told) in
         record {
           is = judged_bad raw short (number + 1) f here;
@@ -228,48 +229,45 @@ module _ (raw room₀ room : List ℕ) (at number end : ℕ) (lining : Lining ra
           front = λ z. absurd (no_fault f z);
         }
 
-    module _ (bytes : Bytes raw) (c : Command) (e : offer_of (Ok c) ≡ offered_at (take (length raw - at) rest)) where
-      offer : offer_of (Ok c) ≡ offered_at rest
-      offer = e ∙ ap offered_at (from_place raw at)
+    module _ (c : Command) (e : offer_of (Ok c) ≡ offered_at x) where
+      own : offer_of (Ok c) ≡ offered_at left
+      own = offer (Ok c) e
 
-      line_within : length (ended_line c) ≤ 2 * span_of rest
-      line_within = rw (said_front rest c offer) (line_reach rest (bytes_drop at raw bytes) (read_fine rest c offer))
+      line_within : length (ended_line c) ≤ 2 * span_of left
+      line_within = rw (said_front left c own) (line_reach left lining.bytes (read_fine left c own))
 
       pub line_fits : 8192 ≤ length room₀ → end + length (ended_line c) ≤ length room
-      line_fits large =
-          let here = command_at raw at (span_of (take (length raw - at) rest)) more refl in
-          omega (arith, here.own, here.ends, line_within, lining.half, lining.same)
+      line_fits large = omega (arith, span_within left, line_within, lining.half, lining.same)
 
-      pub turn_next : 8192 ≤ length room₀ → (n next : ℕ) (after : List ℕ) → n ≡ span_of (take (length raw - at) rest)
-          → Puts (ended_line c) end room next after → Lining raw room₀ after (at + n) (number + 1) next
-      turn_next large n next after span put =
-          let here = command_at raw at n more span in
-          let on : drop (at + n) raw ≡ behind rest = ap (λ k. drop (at + k) raw) here.own ∙ sym (drop-drop (span_of rest) at raw) in
+      pub turn_next : 8192 ≤ length room₀ → (place : ℕ) (after : List ℕ) → Puts (ended_line c) end room place after
+          → Lining raw room₀ after next (number + 1) place
+      turn_next large place after put =
+          let on : next ≡ behind left = (turn left x next step).then in
+          let shorter : length next + span_of left ≡ length left =
+          ap (λ l. length l + span_of left) on ∙ omega (arith, length-drop (span_of left) left, span_within left) in
           record {
-            within = here.ends;
-            few = omega (arith, lining.few, here.moves);
-            half = omega (arith, put.0, line_within, here.own, lining.half);
+            few = omega (arith, lining.few, shorter, span_some left some);
+            half = omega (arith, put.0, line_within, shorter, lining.half);
             same = ap length put.1 ∙ length-sets room end (ended_line c) ∙ lining.same;
+            bytes = rw on (bytes_drop (span_of left) left lining.bytes);
             bad =
                 ap (λ l. first_found (command_findings (number + 1 + 1) (rests l))) on
-                ∙ sym (bad_here ∙ rw (eq-eqb _ 0 (told_none rest c offer), ← add-one (number + 1)));
+                ∙ sym (bad_here ∙ rw (eq-eqb _ 0 (told_none left c own), ← add-one (number + 1)));
             text =
-                rw (put.0, put.1, on, take-sets (ended_line c) room end (line_fits large), said_front rest c offer)
-                (append_assoc (take end room) (ended_line (said rest)) (text_of (behind rest)))
-                ∙ ap (λ l. take end room ++ l) (sym (text_next rest left))
+                rw (put.0, put.1, on, take-sets (ended_line c) room end (line_fits large), said_front left c own)
+                (append_assoc (take end room) (ended_line (said left)) (text_of (behind left)))
+                ∙ ap (λ l. take end room ++ l) (sym (text_next left some))
                 ∙ lining.text;
           }
 
-  pub lining_ends : 8192 ≤ length room₀ → length raw ≤ at → Lined raw room (Ok end)
+  pub lining_ends : 8192 ≤ length room₀ → rests left ≡ [] → Lined raw room (Ok end)
   lining_ends large last =
-      let none : drop at raw ≡ [] = drop_of_length-le raw last in
-      let text : take end room ≡ text_of raw =
-      sym (append-nil (take end room)) ∙ ap (λ l. take end room ++ l) (sym (ap text_of none ∙ no_text)) ∙ lining.text in
-      let long : end ≡ length (text_of raw) =
-      sym (length-take-le end room (omega (arith, lining.half, lining.within, lining.same))) ∙ ap length text in
+      let none : text_of left ≡ [] = ap (λ rs. list_text (map said rs)) last ∙ no_text_lines in
+      let text : take end room ≡ text_of raw = sym (append-nil (take end room)) ∙ ap (λ l. take end room ++ l) (sym none) ∙ lining.text in
+      let long : end ≡ length (text_of raw) = sym (length-take-le end room (omega (arith, lining.half, lining.same))) ∙ ap length text in
       let fine : bad_command raw ≡ nothing =
-      sym lining.bad ∙ ap (λ l. first_found (command_findings (number + 1) (rests l))) none ∙ none_found (number + 1) in
-      record { is = judged_fine raw short end fine long; fits = omega (arith, lining.half, lining.within); front = λ z. text }
+      sym lining.bad ∙ ap (λ rs. first_found (command_findings (number + 1) rs)) last ∙ none_found (number + 1) in
+      record { is = judged_fine raw short end fine long; fits = omega (arith, lining.half); front = λ z. text }
 
 pub lined_long : (raw room : List ℕ) → 4096 < length raw → Lined raw room (Err Refusal.TooLong)
 lined_long raw room long = record { is = judged_long raw long; fits = omega arith; front = λ z. absurd (omega arith) }

@@ -11,6 +11,7 @@ ghost use Rattle.text.specs.ListSteps.{mark, ended_line, offer_of, offered_at, L
 
 use super::findings::{Fault, Refusal};
 use super::goal::quarters_in;
+use walk::Commands;
 use wire::{Command, Form, Layout};
 
 // The text of the longest list fits: a line is at most twice as long as its command's bytes.
@@ -172,16 +173,12 @@ fn gather_lines(raw: &[u8], buffer: &mut [u8]) -> Result<usize, Refusal>
     if walk::LONGEST < raw.len() {
         return Err(Refusal::TooLong);
     }
-    let mut at: usize = 0;
-    let mut number: u32 = 0;
-    let mut end: usize = 0;
-    while at < raw.len() {
+    let mut number = 0;
+    let mut end = 0;
+    for rest in Commands::new(raw) {
         number += 1;
-        match offer_at(&raw[at..]) {
-            Err(fault) => return Err(Refusal::BadLine(number, fault)),
-            Ok(command) => end = put_line(buffer, end, command),
-        }
-        at += wire::span(&raw[at..]);
+        let command = offer_at(rest).map_err(|fault| Refusal::BadLine(number, fault))?;
+        end = put_line(buffer, end, command);
     }
     Ok(end)
 }

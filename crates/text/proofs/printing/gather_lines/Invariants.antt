@@ -1,11 +1,6 @@
--- `gather_lines` meets its contract. The measure is what is left of the list.
-use Prim.Native.Nat.{◌-◌}
-use lib.ListN.{length}
+-- `gather_lines` meets its contract: the lines of the commands before those that are left stand in the buffer.
 use Rattle.text.proofs.Listing.{Lining}
 use Rattle.text.proofs.printing.gather_lines.Given as goal
 
-abbrev pub invariant-loop-at : goal.invariant-loop-at
-invariant-loop-at l = Lining l.raw l.initial.buffer l.buffer l.at l.number l.end
-
-abbrev pub decreases-loop-at : goal.decreases-loop-at
-decreases-loop-at l = length l.raw - l.at
+abbrev pub invariant-loop-rest : goal.invariant-loop-rest
+invariant-loop-rest l = Lining l.raw l.initial.buffer l.buffer l.rest-iterator.left.now l.number l.end
