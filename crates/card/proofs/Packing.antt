@@ -1,12 +1,14 @@
 -- Behind the functions that write a stored list: a command's numbers one behind the other, the commands turn by turn, the whole list.
-use Prim.Native.Nat.{ℕ, zero, suc, ◌+◌, ◌≤◌, ◌<◌}
+use Prim.Native.Nat.{ℕ, ◌+◌, ◌≤◌, ◌<◌}
 use mathlib.Core.Path.{◌≡◌, refl, sym, ap, ◌∙◌}
 use mathlib.Core.List.{List, [], ◌∷◌, ◌++◌, append_assoc, append-nil}
+use mathlib.Core.Bool.{cond}
+use lib.Dec.{ltb}
 use native.Mathlib.Omega.{arith}
 use native.Mathlib.Numerals.{add-one}
-use lib.ListN.{length, get_or, take, drop, length-append, length-drop}
-use lib.Seq.{sets, length-sets, length-take-le, take_all, take-nil}
-use borrow.Author.Tests.{le-leb, lt-leb, le-ltb}
+use lib.ListN.{length, take, drop, length-append, length-drop}
+use lib.Seq.{sets, length-sets, length-take-le}
+use borrow.Author.Tests.{le-leb, lt-leb, lt-ltb, le-ltb}
 use Rattle.words.proofs.Front.{Bytes}
 use Rattle.words.proofs.Laws.{with_room, sets-written}
 use Rattle.words.proofs.Stores.{front_more}
@@ -30,81 +32,39 @@ use Rattle.card.specs.List.{stored_commands, stored_bytes, Said, said, bad, onto
 use Rattle.card.specs.Answers.{Result, Moved, told_fault, stored_by, to_card}
 use Rattle.card.specs.Answers as answers
 use Rattle.card.specs.Steps.{no_room, Packs}
-use Rattle.card.proofs.Stores.{PutAs, put_none, put_both, put_as, put_length}
 use Rattle.card.proofs.Commands.{drop_bytes}
 use Rattle.card.proofs.Lists.{RawTaken, raw_taken}
 use Rattle.card.proofs.Bounds.{command_short}
 
--- Numbers of a row, one more behind so many; so many take no more room than all.
-numbers_more : (vs : List ℕ) (i : ℕ) → i < length vs → numbers_bytes (take (i + 1) vs) ≡ numbers_bytes (take i vs) ++ number_bytes (get_or vs i 0)
-unfolding numbers_bytes
-numbers_more [] i h = absurd (omega arith)
-numbers_more (v ∷ vs) zero h = append-nil (number_bytes v)
-numbers_more (v ∷ vs) (suc i) h =
-    let next : suc i + 1 ≡ suc (i + 1) = omega arith in
-    rw next
-    (ap (λ l. number_bytes v ++ l) (numbers_more vs i (omega arith))
-    ∙ sym (append_assoc (number_bytes v) (numbers_bytes (take i vs)) (number_bytes (get_or vs i 0))))
+-- The arguments that are written.
+module _ (many first second : ℕ) where
+  pub no_arguments : many < 1 → numbers_bytes (arguments_in many first second) ≡ []
+  unfolding numbers_bytes
+  no_arguments none = rw (lt-ltb many 1 none)
 
-numbers_front : (vs : List ℕ) (i : ℕ) → length (numbers_bytes (take i vs)) ≤ length (numbers_bytes vs)
-unfolding numbers_bytes
-numbers_front [] zero = omega arith
-numbers_front [] (suc i) = omega arith
-numbers_front (v ∷ vs) zero = omega arith
-numbers_front (v ∷ vs) (suc i) =
-    omega (arith, numbers_front vs i, length-append (number_bytes v) (numbers_bytes (take i vs)), length-append (number_bytes v) (numbers_bytes vs))
+  pub one_argument : 1 ≤ many → many < 2 → numbers_bytes (arguments_in many first second) ≡ number_bytes first
+  unfolding numbers_bytes
+  one_argument some few = rw (le-ltb many 1 some, lt-ltb many 2 few) (append-nil (number_bytes first))
 
--- The turns of `put_numbers`: the first so many stand in the room.
-pub record PutNumbers (vs room₀ room : List ℕ) (at next i : ℕ) : Type 0 where
-  pub few : i ≤ length vs
-  pub fits : at + length (numbers_bytes vs) ≤ length room₀
-  pub put : PutAs room₀ at (numbers_bytes (take i vs)) next room
+  pub two_arguments : 1 ≤ many → 2 ≤ many → numbers_bytes (arguments_in many first second) ≡ number_bytes first ++ number_bytes second
+  unfolding numbers_bytes
+  two_arguments some more = rw (le-ltb many 1 some, le-ltb many 2 more) (ap (λ l. number_bytes first ++ l) (append-nil (number_bytes second)))
 
-pub none_put : (vs room : List ℕ) (at : ℕ) → at + length (numbers_bytes vs) ≤ length room → PutNumbers vs room room at at 0
-unfolding numbers_bytes
-none_put vs room at fits = record { few = omega arith; fits = fits; put = put_none room at }
+  -- The first fits where all do.
+  pub argument_fits : (room : List ℕ) (at : ℕ) → 1 ≤ many → at + length (numbers_bytes (arguments_in many first second)) ≤ length room
+      → at + length (number_bytes first) ≤ length room
+  unfolding numbers_bytes
+  argument_fits room at some fits =
+      let rest = numbers_bytes (cond (ltb many 2) [] (second ∷ [])) in
+      let all : length (numbers_bytes (arguments_in many first second)) ≡ length (number_bytes first ++ rest) = rw (le-ltb many 1 some) in
+      omega (arith, length-append (number_bytes first) rest)
 
-module _ (vs room₀ room : List ℕ) (at next i : ℕ) (so_far : PutNumbers vs room₀ room at next i) (more : i < length vs) where
-  pub number_fits : next + length (number_bytes (get_or vs i 0)) ≤ length room
-  number_fits =
-      omega (
-        arith,
-        so_far.fits,
-        so_far.put.0,
-        put_length room₀ room at next (numbers_bytes (take i vs)) so_far.put,
-        ap length (numbers_more vs i more),
-        length-append (numbers_bytes (take i vs)) (number_bytes (get_or vs i 0)),
-        numbers_front vs (i + 1),
-      )
-
-  pub one_put : (room' : List ℕ) (next' : ℕ) → PutAs room next (number_bytes (get_or vs i 0)) next' room' → PutNumbers vs room₀ room' at next' (i + 1)
-  one_put room' next' put =
-      record {
-        few = omega arith;
-        fits = so_far.fits;
-        put = put_as room₀ room' at next' _ (numbers_bytes (take (i + 1) vs)) (numbers_more vs i more)
-            (put_both room₀ room room' at next next' (numbers_bytes (take i vs)) (number_bytes (get_or vs i 0)) so_far.put put);
-      }
-
-pub all_put : (vs room₀ room : List ℕ) (at next i : ℕ) → PutNumbers vs room₀ room at next i → length vs ≤ i → PutAs room₀ at (numbers_bytes vs) next room
-all_put vs room₀ room at next i so_far end =
-    put_as room₀ room at next (numbers_bytes (take i vs)) (numbers_bytes vs) (ap numbers_bytes (sym (take_all i vs end))) so_far.put
-
--- The numbers of a command are the first so many of four.
-numbers_are : (opcode bit many first second : ℕ) → opcode ∷ bit ∷ arguments_in many first second ≡ take (2 + many) (opcode ∷ bit ∷ first ∷ second ∷ [])
-numbers_are opcode bit zero first second = refl
-numbers_are opcode bit (suc zero) first second = refl
-numbers_are opcode bit (suc (suc k)) first second =
-    let four : 2 + suc (suc k) ≡ suc (suc (suc (suc k))) = omega arith in
-    rw (four, le-ltb (suc (suc k)) 1 (omega arith), le-ltb (suc (suc k)) 2 (omega arith), take-nil k)
-
+-- A command's bytes, by what the code has of it.
 pub stored_is : (c : Command) (parts : Parts) (row : Row) (bit many : ℕ) → parts ≡ parts_of c.kind → row ≡ row_of parts.form → bit ≡ flag_bit c.flag
-    → many ≡ arguments_of row.layout → stored_command c ≡ numbers_bytes (take (2 + many) (row.opcode ∷ bit ∷ parts.first ∷ parts.second ∷ []))
-unfolding stored_command
-stored_is c parts row bit many is_parts is_row is_bit is_many =
-    rw (is_many, is_row, is_bit, is_parts)
-    (let p = parts_of c.kind in
-    ap numbers_bytes (numbers_are (row_of p.form).opcode (flag_bit c.flag) (arguments_of (row_of p.form).layout) p.first p.second))
+    → many ≡ arguments_of row.layout
+    → stored_command c ≡ number_bytes row.opcode ++ (number_bytes bit ++ numbers_bytes (arguments_in many parts.first parts.second))
+unfolding stored_command numbers_bytes
+stored_is c parts row bit many is_parts is_row is_bit is_many = rw (is_many, is_row, is_bit, is_parts)
 
 stored_append : (cs ds : List Command) → stored_commands (cs ++ ds) ≡ stored_commands cs ++ stored_commands ds
 unfolding stored_commands
