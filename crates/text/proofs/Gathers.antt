@@ -5,7 +5,7 @@ use mathlib.Core.List.{List, [], ◌∷◌, ◌++◌, append_assoc, append-nil}
 use mathlib.Core.Bool.{Bool, true, false, cond, not}
 use native.Mathlib.Omega.{arith}
 use native.Mathlib.Numerals.{add-one}
-use lib.ListN.{length, take, drop, length-append, drop_of_length-le}
+use lib.ListN.{length, take, drop, length-append}
 use lib.Seq.{sets, length-sets, length-take-le}
 use lib.Dec.{eqb, leb, ltb}
 use borrow.Author.Tests.{le-ltb, lt-ltb, ltb-false, eq-eqb}
@@ -26,9 +26,9 @@ use Rattle.text.specs.Split.{lines_of}
 use Rattle.text.specs.Line.{line_of, answer_line}
 use Rattle.text.specs.Findings.{no_room, finding, nothing, whole, first_found, told_fault, Outcome, translated_of}
 use Rattle.text.specs.Assemble.{commands_in, bytes_in, line_findings, bad_line, text_findings, judged_text, assembled_as, room_after}
-use Rattle.text.specs.Steps.{front_of, Part, part_of, part_for, Gathered}
+use Rattle.text.specs.Steps.{Part, part_of, part_for, Gathered}
 use Rattle.text.proofs.Allowed.{line_fine, listed_one}
-use Rattle.text.proofs.Splitting.{lines_at, line_within}
+use Rattle.text.proofs.Splitting.{lines_few}
 use Rattle.text.proofs.Found.{refused_code, fault_code, found_append, Silent, found_silent, whole_silent}
 use Rattle.std.specs.Prelude.{Some, None, Result, Ok, Err}
 use Rattle.text.specs.declared.findings.Refusal.{Refusal}
@@ -116,27 +116,35 @@ module _ (text : List ℕ) where
       unfolding judged_text first_found
       text_fine h = rw (le-ltb 32768 (length text) short, good, le-ltb 4096 (length (bytes_in text)) h)
 
--- So many lines were judged, and none was bad; their bytes stand at the front of the buffer where they have room there. What is left gives what is left.
-pub record Gathering (text buffer₀ buffer : List ℕ) (at number bytes : ℕ) : Type 0 where
-  pub within : at ≤ length text + 1
-  pub few : number ≤ at
-  pub small : bytes ≤ 16 * at
-  pub bad : first_found (line_findings (number + 1) (lines_of (drop at text))) ≡ bad_line text
-  pub sum : bytes + length (bytes_in (drop at text)) ≡ length (bytes_in text)
-  pub same : length buffer ≡ length buffer₀
-  pub front : bytes ≤ length buffer → take bytes buffer ++ bytes_in (drop at text) ≡ bytes_in text
+-- Lines give 16 bytes each, at most.
+lines_short : (ls : List (List ℕ)) → length (list_bytes (commands_in ls)) ≤ 16 * length ls
+unfolding list_bytes commands_in
+lines_short [] = omega arith
+lines_short (l ∷ ls) =
+    omega (
+      arith,
+      ap length (bytes_next l ls) ∙ length-append (list_bytes (line_of l).taken) (list_bytes (commands_in ls)),
+      (line_fine l).short,
+      lines_short ls,
+    )
 
-pub gathering_none : (text buffer : List ℕ) → Gathering text buffer buffer 0 0 0
-gathering_none text buffer =
-    record {
-      within = omega arith;
-      few = omega arith;
-      small = omega arith;
+-- So many lines were judged, and none was bad; their bytes stand at the front of the buffer where they have room there. What is left gives what is left.
+pub record Gathering (text buffer₀ buffer : List ℕ) (ls : List (List ℕ)) (number bytes : ℕ) : Type 0 where
+  pub few : number + length ls ≤ length text
+  pub bad : first_found (line_findings (number + 1) ls) ≡ bad_line text
+  pub sum : bytes + length (list_bytes (commands_in ls)) ≡ length (bytes_in text)
+  pub same : length buffer ≡ length buffer₀
+  pub front : bytes ≤ length buffer → take bytes buffer ++ list_bytes (commands_in ls) ≡ bytes_in text
+
+pub gathering_none : (text buffer left : List ℕ) → left ≡ text → Gathering text buffer buffer (lines_of left) 0 0
+gathering_none text buffer left is =
+    rw is (record {
+      few = omega (arith, lines_few text);
       bad = refl;
       sum = omega arith;
       same = refl;
       front = λ h. refl;
-    }
+    })
 
 -- A judgement that is no list leaves nothing to say of the buffer.
 no_list : (text buffer : List ℕ) (j : Result ℕ Refusal) → translated_of j ≡ judged_text text → eqb (translated_of j).found.told.code 0 ≡ false → Gathered text buffer j
@@ -149,28 +157,22 @@ no_list text buffer j is refused =
 pub gathered_long : (text buffer : List ℕ) → 32768 < length text → Gathered text buffer (Err Refusal.TooLong)
 gathered_long text buffer h = no_list text buffer (Err Refusal.TooLong) (text_long text h) refl
 
-module _ (text buffer₀ buffer : List ℕ) (at number bytes : ℕ) (gathering : Gathering text buffer₀ buffer at number bytes) where
-  module _ (more : at < length text) (line : List ℕ) (is_line : line ≡ front_of 10 (take (length text - at) (drop at text)))
+module _ (text buffer₀ buffer : List ℕ) (ls : List (List ℕ)) (number bytes : ℕ) (gathering : Gathering text buffer₀ buffer ls number bytes) where
+  module _ (line : List ℕ) (later : List (List ℕ)) (next : ls ≡ line ∷ later)
       (buffer' : List ℕ) (stored : buffer' ≡ stored_at (list_bytes (line_of line).taken) bytes buffer) where
     abbrev here : List ℕ
     here = list_bytes (line_of line).taken
 
-    abbrev later : List ℕ
-    later = drop (at + (length line + 1)) text
-
     pub kept : length buffer' ≡ length buffer₀
     kept = ap length stored ∙ stored_length here bytes buffer ∙ gathering.same
 
-    next : lines_of (drop at text) ≡ line ∷ lines_of later
-    next = lines_at text at more line is_line
-
     bad_here : bad_line text
-        ≡ cond (eqb (line_of line).told.code 0) (first_found (line_findings (suc (number + 1)) (lines_of later))) (finding (line_of line).told (number + 1))
+        ≡ cond (eqb (line_of line).told.code 0) (first_found (line_findings (suc (number + 1)) later)) (finding (line_of line).told (number + 1))
     unfolding first_found line_findings
-    bad_here = sym gathering.bad ∙ ap (λ ls. first_found (line_findings (number + 1) ls)) next
+    bad_here = sym gathering.bad ∙ ap (λ l. first_found (line_findings (number + 1) l)) next
 
-    bytes_here : bytes_in (drop at text) ≡ here ++ bytes_in later
-    bytes_here = ap (λ ls. list_bytes (commands_in ls)) next ∙ bytes_next line (lines_of later)
+    bytes_here : list_bytes (commands_in ls) ≡ here ++ list_bytes (commands_in later)
+    bytes_here = ap (λ l. list_bytes (commands_in l)) next ∙ bytes_next line later
 
     pub turn_bad : length text ≤ 32768 → (f : Fault) → part_of (Err f) ≡ part_for line → Gathered text buffer' (Err (Refusal.BadLine (number + 1) f))
     turn_bad short f e =
@@ -179,15 +181,26 @@ module _ (text buffer₀ buffer : List ℕ) (at number bytes : ℕ) (gathering :
         let first : bad_line text ≡ finding (told_fault f) (number + 1) = bad_here ∙ rw (late, told) in
         no_list text buffer' (Err (Refusal.BadLine (number + 1) f)) (text_bad text short (number + 1) f first) (fault_code f)
 
-    pub turn_gives : (n : ℕ) → part_of (Ok n) ≡ part_for line → Gathering text buffer₀ buffer' (at + (length line + 1)) (number + 1) (bytes + n)
+    -- What a line adds is counted: the bytes of a text that is not too long are few.
+    pub turn_few : length text ≤ 32768 → (n : ℕ) → part_of (Ok n) ≡ part_for line → bytes + n ≤ 16 * 32768
+    turn_few short n e =
+        omega (
+          arith,
+          ap (λ (p : Part). p.bytes) e,
+          ap length bytes_here ∙ length-append here (list_bytes (commands_in later)),
+          gathering.sum,
+          lines_short (lines_of text),
+          lines_few text,
+        )
+
+    pub turn_gives : (n : ℕ) → part_of (Ok n) ≡ part_for line → Gathering text buffer₀ buffer' later (number + 1) (bytes + n)
     turn_gives n e =
         let code : (line_of line).told.code ≡ 0 = sym (ap (λ (p : Part). p.told.code) e) in
         let long : n ≡ length here = ap (λ (p : Part). p.bytes) e in
-        let rest : length (bytes_in (drop at text)) ≡ length here + length (bytes_in later) = ap length bytes_here ∙ length-append here (bytes_in later) in
+        let rest : length (list_bytes (commands_in ls)) ≡ length here + length (list_bytes (commands_in later)) =
+        ap length bytes_here ∙ length-append here (list_bytes (commands_in later)) in
         record {
-          within = line_within text at more line is_line;
-          few = omega (arith, gathering.few);
-          small = omega (arith, gathering.small, (line_fine line).short);
+          few = omega (arith, gathering.few, ap length next);
           bad = sym (bad_here ∙ rw (eq-eqb _ 0 code, ← add-one (number + 1)));
           sum = omega (arith, gathering.sum);
           same = kept;
@@ -198,13 +211,14 @@ module _ (text buffer₀ buffer : List ℕ) (at number bytes : ℕ) (gathering :
         }
 
   -- No line is left.
-  module _ (end : length text ≤ at) (short : length text ≤ 32768) where
+  module _ (end : ls ≡ []) (short : length text ≤ 32768) where
     good : bad_line text ≡ nothing
-    unfolding first_found line_findings lines_of
-    good = sym gathering.bad ∙ ap (λ l. first_found (line_findings (number + 1) (lines_of l))) (drop_of_length-le text end)
+    unfolding first_found line_findings
+    good = sym gathering.bad ∙ ap (λ l. first_found (line_findings (number + 1) l)) end
 
-    none : bytes_in (drop at text) ≡ []
-    none = ap bytes_in (drop_of_length-le text end) ∙ no_bytes
+    none : list_bytes (commands_in ls) ≡ []
+    unfolding commands_in list_bytes
+    none = ap (λ l. list_bytes (commands_in l)) end
 
     all : bytes ≡ length (bytes_in text)
     all = omega (arith, gathering.sum, ap length none)

@@ -1,13 +1,13 @@
 -- A text taken apart: its first line and the lines behind it; a line's first word and the words behind it.
 use Prim.Native.Nat.{ℕ, suc, ◌+◌, ◌-◌, ◌≤◌, ◌<◌}
-use mathlib.Core.Path.{◌≡◌, refl, ap, ◌∙◌}
+use mathlib.Core.Path.{◌≡◌, refl, sym, ap, ◌∙◌}
 use mathlib.Core.List.{List, [], ◌∷◌}
 use mathlib.Core.Bool.{Bool, true, false, cond}
 use native.Mathlib.Omega.{arith}
 use lib.ListN.{length, take, drop, length-drop}
 use lib.Seq.{drop-drop, length-take-le}
 use lib.Dec.{eqb}
-use borrow.Author.Tests.{ne_eqb}
+use borrow.Author.Tests.{ne_eqb, eqb-true}
 use Rattle.text.specs.Split.{onto, lines_of, words_of}
 use Rattle.text.specs.Steps.{run_of, count_of, front_of, behind_of}
 use Rattle.text.proofs.Marks.{run_within}
@@ -60,6 +60,30 @@ words_count (b ∷ s) = go (eqb b 32) (words_of s) (words_count s)
     go true ws e = omega arith
     go false [] e = absurd (omega arith)
     go false (w ∷ ws) e = omega arith
+
+-- A walk by what is left: a text with no byte has no line.
+pub no_line : (s : List ℕ) (empty : Bool) → empty ≡ eqb (length s) 0 → empty ≡ true → lines_of s ≡ []
+unfolding lines_of
+no_line [] empty is e = refl
+no_line (b ∷ s) empty is e = absurd (omega (arith, eqb-true (length (b ∷ s)) 0 (sym is ∙ e)))
+
+-- Any other has its first, and those behind it.
+pub line_passed : (s line left : List ℕ) → 0 < length s → line ≡ front_of 10 s → left ≡ drop (length line + 1) s → lines_of s ≡ line ∷ lines_of left
+line_passed s line left some is on =
+    let long : length line ≡ run_of 10 s = ap length is ∙ length-take-le (run_of 10 s) s (run_within 10 s) in
+    let behind : left ≡ behind_of 10 s = on ∙ ap (λ k. drop (k + 1) s) long in
+    rw (is, behind) (lines_next s some)
+
+-- There are no more lines than bytes.
+pub lines_few : (s : List ℕ) → length (lines_of s) ≤ length s
+unfolding lines_of
+lines_few [] = omega arith
+lines_few (b ∷ s) = go (eqb b 10) (lines_of s) (lines_few s)
+  where
+    go : (t : Bool) (ls : List (List ℕ)) → length ls ≤ length s → length (cond t ([] ∷ ls) (onto b ls)) ≤ suc (length s)
+    go true ls few = omega arith
+    go false [] few = omega arith
+    go false (l ∷ ls) few = omega arith
 
 -- The line at a place of a text, as the code lends it, and the place behind it.
 module _ (text : List ℕ) (at : ℕ) (more : at < length text) (line : List ℕ) (is_line : line ≡ front_of 10 (take (length text - at) (drop at text))) where

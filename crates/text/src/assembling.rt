@@ -10,7 +10,7 @@ ghost use Rattle.text.specs.Steps.{part_of, part_for, Gathered};
 use super::findings::{Fault, Refusal};
 use super::line::line_of;
 use super::showing::LONGEST;
-use super::split::{LINE_FEED, front};
+use super::split::Lines;
 
 // How many bytes a command has.
 fn command_length(command: wire::Command) -> usize
@@ -41,17 +41,11 @@ fn gather(text: &[u8], buffer: &mut [u8]) -> Result<usize, Refusal>
     if LONGEST < text.len() {
         return Err(Refusal::TooLong);
     }
-    let mut at: usize = 0;
-    let mut number: u32 = 0;
-    let mut bytes: usize = 0;
-    while at < text.len() {
-        let line = front(&text[at..], LINE_FEED);
+    let mut number = 0;
+    let mut bytes = 0;
+    for line in Lines::new(text) {
         number += 1;
-        match step_into(line, buffer, bytes) {
-            Err(fault) => return Err(Refusal::BadLine(number, fault)),
-            Ok(n) => bytes += n,
-        }
-        at += line.len() + 1;
+        bytes += step_into(line, buffer, bytes).map_err(|fault| Refusal::BadLine(number, fault))?;
     }
     if walk::LONGEST < bytes {
         return Err(Refusal::TooLong);

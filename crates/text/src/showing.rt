@@ -18,7 +18,8 @@ pub fn line_shown<'a>(text: &'a [u8], number: u32) -> &'a [u8]
     }
     let mut at: usize = 0;
     let mut passed: u32 = 0;
-    // Each turn passes a byte at least, so the text's length bounds the turns, whatever the number.
+    // Stays a `while` and no `Lines::nth`: where the line lies in the text is promised too, and an iterator's clauses speak of a line's bytes alone. Each turn
+    // passes a byte at least, so the text's length bounds the turns, whatever the number.
     while at < text.len() {
         let end = at + run_of(&text[at..], LINE_FEED);
         passed += 1;

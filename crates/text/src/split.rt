@@ -1,5 +1,7 @@
 //! A line or a text taken apart at a mark.
 ghost use Rattle.std.specs.Prelude.{◌+◌, ◌≡◌, drop};
+ghost use Rattle.std.specs.Iterator.{YieldsFirstRef, item_count};
+ghost use Rattle.text.specs.Split.{lines_of};
 ghost use Rattle.text.specs.Steps.{run_of, front_of};
 
 /// What ends a line.
@@ -35,4 +37,37 @@ pub fn behind<'a>(s: &'a [u8], at: usize) -> &'a [u8]
         return &s[at + 1..];
     }
     &s[s.len()..]
+}
+
+/// The lines of a text in turn, each without its line feed.
+#[derive(Clone, Copy)]
+pub struct Lines<'a> {
+    left: &'a [u8],
+}
+
+impl<'a> Lines<'a> {
+    /// All lines of a text.
+    pub fn new(text: &'a [u8]) -> Lines<'a>
+        ensures { result.left ≡ text.entry }
+    {
+        Lines { left: text }
+    }
+}
+
+impl<'a> Iterator for Lines<'a> {
+    type Item = &'a [u8];
+
+    ghost next_gives = { YieldsFirstRef (λ s. lines_of s.left.now) };
+
+    ghost remaining = { item_count (λ s. lines_of s.left.now) };
+
+    fn next(&mut self) -> Option<&'a [u8]> {
+        let here = self.left;
+        if here.is_empty() {
+            return None;
+        }
+        let line = front(here, LINE_FEED);
+        self.left = behind(here, line.len());
+        Some(line)
+    }
 }
