@@ -1,6 +1,6 @@
 -- Digits read from the front.
 use Prim.Native.Nat.{ℕ, zero, suc, ◌+◌, ◌*◌, ◌-◌, ◌^◌, ◌<◌, ◌≤◌}
-use mathlib.Core.Path.{◌≡◌, refl, sym, ap, ◌∙◌}
+use mathlib.Core.Path.{◌≡◌, refl, sym, ap, subst, ◌∙◌}
 use mathlib.Core.List.{List, []}
 use mathlib.Core.Bool.{Bool, true, false, cond, ◌&&◌}
 use native.Mathlib.Omega.{arith}
@@ -9,10 +9,11 @@ use native.Mathlib.Numerals.{add-one}
 use lib.ListN.{length, get_or, drop, take, length-drop}
 use lib.Seq.{drop-cons, drop-length, take-suc, take_all}
 use lib.Dec.{eqb, ltb}
-use borrow.Author.Tests.{le-leb, lt-leb, lt-ltb, le-ltb, eq-eqb, ne_eqb}
+use borrow.Author.Tests.{leb-true, lt-ltb, le-ltb, eq-eqb, ne_eqb}
 use Rattle.text.specs.declared.number.Digits.{Digits}
 use Rattle.words.specs.Text.{ascii, value_from}
 use Rattle.words.proofs.Decimal.{value_append}
+use Rattle.words.proofs.Tests.{both}
 use Rattle.text.specs.Number.{is_digit, digits_in, whole_of, fraction_of, quarters_with, quarters_of}
 use Rattle.text.specs.Split.{same_text}
 use Rattle.text.specs.Steps.{Counted}
@@ -46,7 +47,7 @@ module _ (s : List ℕ) (value count : ℕ) (got : Got s value count) where
   unfolding digits_in
   got_five e = rw e
 
-  pub got_end : length s ≤ count → digits_in (5 - count) (drop count s) ≡ 0
+  got_end : length s ≤ count → digits_in (5 - count) (drop count s) ≡ 0
   unfolding digits_in
   got_end end =
       let at : count ≡ length s = omega (arith, got.within) in
@@ -56,6 +57,11 @@ module _ (s : List ℕ) (value count : ℕ) (got : Got s value count) where
       none zero = refl
       none (suc k) = refl
 
+  pub got_whole : length s ≤ count → Counted s (record { value = value; count = length s })
+  got_whole end =
+      let at : count ≡ length s = omega (arith, got.within) in
+      subst (λ n. Counted s (record { value = value; count = n })) at (got_all (got_end end))
+
   module _ (more : count < length s) (room : (count ≡ 5 → ⊥)) where
     step : digits_in (5 - count) (drop count s) ≡ cond (is_digit (get_or s count 0)) (suc (digits_in (5 - suc count) (drop (suc count) s))) 0
     unfolding digits_in
@@ -63,21 +69,18 @@ module _ (s : List ℕ) (value count : ℕ) (got : Got s value count) where
         let left : 5 - count ≡ suc (5 - suc count) = omega (arith, got.few, room) in
         rw (left, drop-cons s count 0 more)
 
-    pub got_low : get_or s count 0 < 48 → digits_in (5 - count) (drop count s) ≡ 0
-    got_low h = step ∙ simp (lt-leb _ _ h)
+    pub got_other : is_digit (get_or s count 0) ≡ false → digits_in (5 - count) (drop count s) ≡ 0
+    got_other other = step ∙ rw other
 
-    pub got_high : 57 < get_or s count 0 → digits_in (5 - count) (drop count s) ≡ 0
-    got_high h = step ∙ simp (le-leb 48 (get_or s count 0) (omega arith), lt-leb _ _ h)
-
-    pub got_more : 48 ≤ get_or s count 0 → get_or s count 0 ≤ 57 → Got s (value * 10 + (get_or s count 0 - 48)) (count + 1)
-    got_more low high =
+    pub got_more : is_digit (get_or s count 0) ≡ true → Got s (value * 10 + (get_or s count 0 - 48)) (count + 1)
+    got_more digit =
         let here : digits_in (5 - count) (drop count s) ≡ suc (digits_in (5 - suc count) (drop (suc count) s)) =
-        step ∙ simp (le-leb _ _ low, le-leb _ _ high) in
+        step ∙ rw digit in
         let fewer : count < 5 = omega (arith, got.few, room) in
         record {
           within = omega arith;
           few = omega arith;
-          small = rw add-one (omega (arith, pow-suc 10 count, got.small));
+          small = rw add-one (omega (arith, pow-suc 10 count, got.small, leb-true (get_or s count 0) 57 (both _ _ digit).1));
           said = rw (add-one, take-suc s count 0 more, value_append) (ap (λ v. v * 10 + (get_or s count 0 - 48)) got.said);
           rest = rw add-one (omega (arith, got.rest));
         }

@@ -6,7 +6,7 @@ ghost use Rattle.text.specs.Steps.{Counted};
 use super::same::same;
 
 // The digits at the front of a text: what they say, and how many they are.
-#[derive(Drop)]
+#[derive(Clone, Copy)]
 struct Digits {
     value: u32,
     count: usize,
@@ -14,39 +14,25 @@ struct Digits {
 
 const MOST_DIGITS: usize = 5;
 
-// The bytes of the first and the last digit, and the base.
-const ZERO: u32 = 48;
-
-const NINE: u32 = 57;
-
 const TEN: u32 = 10;
 
 // Quarters in a whole.
 const WHOLE: u32 = 4;
 
-fn wide(b: u8) -> u32
-    ensures { result ≡ b }
-{
-    b as u32
-}
-
 fn digits_of(part: &[u8]) -> Digits
     ensures { Counted part.now result }
 {
-    let mut value: u32 = 0;
-    let mut count: usize = 0;
-    while count < part.len() {
-        if count == MOST_DIGITS {
+    let mut value = 0;
+    for (count, &b) in part.iter().enumerate() {
+        if count == MOST_DIGITS || !b.is_ascii_digit() {
             return Digits { value, count };
         }
-        let b = wide(part[count]);
-        if b < ZERO || NINE < b {
-            return Digits { value, count };
-        }
-        value = value * TEN + (b - ZERO);
-        count += 1;
+        value = value * TEN + (b - b'0') as u32;
     }
-    Digits { value, count }
+    Digits {
+        value,
+        count: part.len(),
+    }
 }
 
 /// A whole number: one to five digits and nothing else.
@@ -54,13 +40,10 @@ pub fn whole_of(part: &[u8]) -> Option<u32>
     ensures { result ≡ whole_of part.now }
 {
     let digits = digits_of(part);
-    if digits.count == 0 {
+    if digits.count == 0 || digits.count != part.len() {
         return None;
     }
-    if digits.count == part.len() {
-        return Some(digits.value);
-    }
-    None
+    Some(digits.value)
 }
 
 // The quarters that the end of a goal says.
@@ -87,10 +70,9 @@ pub fn quarters_of(part: &[u8]) -> Option<u32>
     ensures { result ≡ quarters_of part.now }
 {
     let digits = digits_of(part);
-    let count = digits.count;
-    if count == 0 {
+    if digits.count == 0 {
         return None;
     }
-    let quarters = fraction_of(&part[count..])?;
+    let quarters = fraction_of(&part[digits.count..])?;
     Some(digits.value * WHOLE + quarters)
 }
