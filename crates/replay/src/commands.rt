@@ -1,86 +1,86 @@
-// The items with one command: 01 carries it out from bytes, 09 carries out a decoded one and writes it; 07 reads one and, where it is taken,
-// writes it again.
-use super::items::State;
-use bench::Verdict;
+//! The items with one command: 01 carries it out from bytes, 09 carries out a decoded one and writes it; 07 reads one and, where it is taken,
+//! writes it again.
+use super::items::{State, take_lent};
+use bench::{Bench, Rejection};
 use script::rooms::FILL;
 use script::{Place, output, rooms};
-use wire::{Command, Form, Reading, Writing};
+use wire::{Command, Form};
 
 // Room for the longest command.
 const LONGEST: usize = 16;
 
 // The code of writing a command and, where that is 0, the bytes written.
 fn written(out: &mut [u8], used: usize, command: Command, room: &mut [u8]) -> usize {
-    match wire::write_command(command, room) {
-        Writing::Written(count) => {
-            let used = output::number(out, used, 0);
-            output::hex(out, used, script::front(room, count))
-        }
-        Writing::Refused(refusal) => {
-            let told = wire::told_of(refusal);
-            output::number(out, used, told.code as u64)
-        }
+    let wrote = wire::write_command(command, room);
+    let used = output::number(out, used, u64::from(wire::told_of(&wrote).code));
+    match wrote {
+        Ok(count) => output::hex(out, used, script::front(room, count)),
+        Err(_) => used,
     }
 }
 
 // What is told of reading a command and, where the code is 0, what writing it gives.
 fn taken(out: &mut [u8], used: usize, bytes: &[u8], room: &mut [u8]) -> usize {
-    match wire::read_command(bytes) {
-        Reading::Taken(command) => {
-            let used = tellings::told(out, used, wire::plain(0));
-            written(out, used, command, room)
-        }
-        Reading::Refused(refusal) => tellings::told(out, used, wire::told_of(refusal)),
+    let read = wire::read_command(bytes);
+    let used = tellings::told(out, used, wire::told_of(&read));
+    match read {
+        Ok(command) => written(out, used, command, room),
+        Err(_) => used,
     }
 }
 
-fn read_line(out: &mut [u8], used: usize, bytes: &[u8], length: u8) -> usize {
-    let mut room = [FILL; rooms::SHORT];
-    let length = length as usize;
+fn read_line(out: &mut [u8], used: usize, bytes: &[u8], room: &mut [u8]) -> usize {
     let used = output::text(out, used, b"read");
-    let used = taken(out, used, bytes, &mut room[0..length]);
+    let used = taken(out, used, bytes, room);
     output::end(out, used)
 }
 
-// 07, a room's length of one byte, and the bytes of a command: `read CODE PAR VALUE LOW HIGH`; where the code is 0, `read 0 0 0 0 0 CODE` with the
-// code of the writing, and the bytes.
+/// 07, a room's length of one byte, and the bytes of a command: `read CODE PAR VALUE LOW HIGH`; where the code is 0, `read 0 0 0 0 0 CODE` with the
+/// code of the writing, and the bytes.
 pub fn read(place: Place, s: &[u8], out: &mut [u8]) -> Place {
-    let length = script::take(s, place.at, 1);
-    let bytes = script::take_short(s, length.to);
-    if !bytes.whole {
+    let Some(lent) = take_lent(s, place.at) else {
         return place.bad(out);
-    }
-    let length = words::byte_at(s, length.from);
-    let used = read_line(out, place.used, script::bytes(s, bytes), length);
-    place.answered(bytes.to, used)
+    };
+    let mut room = [FILL; rooms::SHORT];
+    let used = read_line(
+        out,
+        place.used,
+        lent.bytes,
+        &mut room[..usize::from(lent.length)],
+    );
+    place.answered(lent.end, used)
 }
 
-fn carried_line(out: &mut [u8], used: usize, verdict: Verdict) -> usize {
+fn carried_line(out: &mut [u8], used: usize, carried: &Result<Bench, Rejection>) -> usize {
     let used = output::text(out, used, b"command");
-    let used = tellings::told(out, used, bench::told_of(verdict));
+    let used = tellings::told(out, used, bench::told_of(carried));
     output::end(out, used)
 }
 
-// 01, the bytes of a command: `command CODE PAR VALUE LOW HIGH`.
+/// 01, the bytes of a command: `command CODE PAR VALUE LOW HIGH`.
 pub fn carry_out(state: State, s: &[u8], out: &mut [u8]) -> State {
-    let bench = state.bench;
     let place = state.place;
     let bytes = script::take_short(s, place.at);
     if !bytes.whole {
         return state.went_on(place.bad(out));
     }
-    let carried = bench.carry_out_bytes(script::bytes(s, bytes));
-    let verdict = carried.verdict;
-    let used = carried_line(out, place.used, verdict);
-    let bench = carried.bench;
-    let place = place.answered(bytes.to, used);
-    State { bench, place }
+    let carried = state.bench.carry_out_bytes(script::bytes(s, bytes));
+    let used = carried_line(out, place.used, &carried);
+    State {
+        bench: carried.unwrap_or(state.bench),
+        place: place.answered(bytes.to, used),
+    }
 }
 
-fn decoded_line(out: &mut [u8], used: usize, command: Command, verdict: Verdict) -> usize {
+fn decoded_line(
+    out: &mut [u8],
+    used: usize,
+    command: Command,
+    carried: &Result<Bench, Rejection>,
+) -> usize {
     let mut room = [FILL; LONGEST];
     let used = output::text(out, used, b"decoded");
-    let used = tellings::told(out, used, bench::told_of(verdict));
+    let used = tellings::told(out, used, bench::told_of(carried));
     let used = written(out, used, command, &mut room);
     output::end(out, used)
 }
@@ -108,16 +108,14 @@ fn form_at(row: u8) -> Form {
 
 // A decoded command of the flag's last bit, a row of the table of commands, and two arguments.
 fn decoded(flag: u8, row: u8, first: u32, second: u32) -> Command {
-    let kind = wire::kind_of(form_at(row), first, second);
     Command {
         flag: flag % 2 == 1,
-        kind,
+        kind: wire::kind_of(form_at(row), first, second),
     }
 }
 
-// 09, a flag, a row and two arguments of four bytes: `decoded CODE PAR VALUE LOW HIGH CODE`, with the second code of the writing, and the bytes.
+/// 09, a flag, a row and two arguments of four bytes: `decoded CODE PAR VALUE LOW HIGH CODE`, with the second code of the writing, and the bytes.
 pub fn carry_out_decoded(state: State, s: &[u8], out: &mut [u8]) -> State {
-    let bench = state.bench;
     let place = state.place;
     let flag = script::take(s, place.at, 1);
     let row = script::take(s, flag.to, 1);
@@ -126,18 +124,16 @@ pub fn carry_out_decoded(state: State, s: &[u8], out: &mut [u8]) -> State {
     if !second.whole {
         return state.went_on(place.bad(out));
     }
-    let flag = words::byte_at(s, flag.from);
-    let row = words::byte_at(s, row.from);
     let command = decoded(
-        flag,
-        row,
+        words::byte_at(s, flag.from),
+        words::byte_at(s, row.from),
         words::word_at(s, first.from),
         words::word_at(s, second.from),
     );
-    let carried = bench.carry_out(command);
-    let verdict = carried.verdict;
-    let used = decoded_line(out, place.used, command, verdict);
-    let bench = carried.bench;
-    let place = place.answered(second.to, used);
-    State { bench, place }
+    let carried = state.bench.carry_out(command);
+    let used = decoded_line(out, place.used, command, &carried);
+    State {
+        bench: carried.unwrap_or(state.bench),
+        place: place.answered(second.to, used),
+    }
 }

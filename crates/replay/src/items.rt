@@ -1,11 +1,10 @@
-// The items of a script. The first byte of one says what it is; its function says what follows, and what it prints: one line, where nothing else
-// is said. An item that is cut off, or has another first byte, prints `bad script` and ends the replay.
-use super::texts::Way;
+//! The items of a script. The first byte of one says what it is; its function says what follows, and what it prints: one line, where nothing else
+//! is said. An item that is cut off, or has another first byte, prints `bad script` and ends the replay.
 use super::{commands, frames, lists, seconds, tags, texts};
 use bench::Bench;
 use script::Place;
 
-// The bench, and where the replay stands in the script.
+/// The bench, and where the replay stands in the script.
 #[derive(Clone, Copy)]
 pub struct State {
     pub bench: Bench,
@@ -14,34 +13,76 @@ pub struct State {
 
 impl State {
     pub fn fresh() -> State {
-        let bench = Bench::fresh();
-        let place = Place::start();
-        State { bench, place }
+        State {
+            bench: Bench::fresh(),
+            place: Place::start(),
+        }
     }
 
-    // Is there another item to take?
+    /// Is there another item to take?
     pub fn goes_on(self, s: &[u8]) -> bool {
-        let place = self.place;
-        place.goes_on(s)
+        self.place.goes_on(s)
     }
 
     // 04: a fresh bench again; nothing is printed.
     fn renewed(self) -> State {
-        let bench = Bench::fresh();
-        State { bench, ..self }
+        State {
+            bench: Bench::fresh(),
+            ..self
+        }
     }
 
-    // After an item that left the bench as it was.
+    /// After an item that left the bench as it was.
     pub fn went_on(self, place: Place) -> State {
         State { place, ..self }
     }
 }
 
-// Takes one item.
+/// What an item has that begins with a room's length of one byte and some bytes, and where it ends.
+#[derive(Drop)]
+pub struct Lent<'a> {
+    pub length: u8,
+    pub bytes: &'a [u8],
+    pub end: usize,
+}
+
+/// Takes these; nothing where the script does not have them whole.
+pub fn take_lent(s: &[u8], at: usize) -> Option<Lent<'_>> {
+    let length = script::take(s, at, 1);
+    let bytes = script::take_short(s, length.to);
+    bytes.whole.then(|| Lent {
+        length: words::byte_at(s, length.from),
+        bytes: script::bytes(s, bytes),
+        end: bytes.to,
+    })
+}
+
+/// What an item has that runs two lists: the length of the room, the kit's list and the pupil's or a text, and where it ends.
+#[derive(Drop)]
+pub struct Lists<'a> {
+    pub length: u16,
+    pub kit: &'a [u8],
+    pub pupil: &'a [u8],
+    pub end: usize,
+}
+
+/// Takes these; nothing where the script does not have them whole.
+pub fn two_lists(s: &[u8], at: usize) -> Option<Lists<'_>> {
+    let length = script::take(s, at, 2);
+    let kit = script::take_long(s, length.to);
+    let pupil = script::take_long(s, kit.to);
+    pupil.whole.then(|| Lists {
+        length: words::half_at(s, length.from),
+        kit: script::bytes(s, kit),
+        pupil: script::bytes(s, pupil),
+        end: pupil.to,
+    })
+}
+
+/// Takes one item.
 pub fn item(state: State, s: &[u8], out: &mut [u8]) -> State {
-    let place = state.place;
-    let first = script::take(s, place.at, 1);
-    let place = place.answered(first.to, place.used);
+    let first = script::take(s, state.place.at, 1);
+    let place = state.place.answered(first.to, state.place.used);
     let state = state.went_on(place);
     match words::byte_at(s, first.from) {
         0 => seconds::second(state, out),
@@ -54,8 +95,8 @@ pub fn item(state: State, s: &[u8], out: &mut [u8]) -> State {
         7 => state.went_on(commands::read(place, s, out)),
         8 => seconds::pass(state, s, out),
         9 => commands::carry_out_decoded(state, s, out),
-        10 => state.went_on(texts::translate(place, s, out, Way::ToList)),
-        11 => state.went_on(texts::translate(place, s, out, Way::ToText)),
+        10 => state.went_on(texts::assemble(place, s, out)),
+        11 => state.went_on(texts::list(place, s, out)),
         12 => texts::run(state, s, out),
         13 => state.went_on(texts::line(place, s, out)),
         14 => state.went_on(tags::own(state, s, out)),

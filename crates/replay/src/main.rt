@@ -1,5 +1,5 @@
-// Replays a script of events on a fresh bench and prints what each one answers. The program decides nothing itself: it hands the script's bytes to
-// the libraries and prints what they answer. The items that a script is made of stand in `items`; numbers of several bytes are big-endian.
+//! Replays a script of events on a fresh bench and prints what each one answers. The program decides nothing itself: it hands the script's bytes to
+//! the libraries and prints what they answer. The items that a script is made of stand in `items`; numbers of several bytes are big-endian.
 #![tactic(auto)]
 
 mod commands;
@@ -17,13 +17,13 @@ use script::output;
 // Takes one item after another until the script ends or an item is bad. Each item takes a byte at least, so the script's length bounds the turns.
 fn replay(s: &[u8], out: &mut [u8]) {
     let mut state = State::fresh();
-    let mut turns = s.len();
-    while 0 < turns && state.goes_on(s) {
+    for _ in s {
+        if !state.goes_on(s) {
+            break;
+        }
         state = items::item(state, s, out);
-        turns -= 1;
     }
-    let place = state.place;
-    output::flush(out, place.used);
+    output::flush(out, state.place.used);
 }
 
 fn main() {

@@ -1,50 +1,39 @@
-// The items with text: 0a assembles a raw list of one, 0b lists a raw list as one, 0c runs the kit's raw list and a typed one, 0d shows a line.
-use super::items::State;
+//! The items with text: 0a assembles a raw list of one, 0b lists a raw list as one, 0c runs the kit's raw list and a typed one, 0d shows a line.
+use super::items::{State, two_lists};
 use super::reports;
-use bench::TypedRan;
+use bench::{Ran, TypedRefusal};
 use script::rooms::FILL;
 use script::{Place, output, rooms};
-use text::{Finding, Translated};
+use text::Refusal;
 
-// Which way a list is translated: from a text to its raw list, or back.
-#[derive(Clone, Copy)]
-pub enum Way {
-    ToList,
-    ToText,
+// The line of a translation behind its first word, ` CODE NUMBER PAR VALUE LOW HIGH` and the bytes written, and the rest of the room.
+fn translated_lines(
+    out: &mut [u8],
+    used: usize,
+    translated: Result<usize, Refusal>,
+    room: &[u8],
+) -> usize {
+    let found = text::finding_of(&translated);
+    tellings::written(
+        out,
+        used,
+        found.told,
+        found.number,
+        room,
+        translated.unwrap_or(0),
+    )
 }
 
-// A code, the line or command that it is of, and what was wrong with the number.
-fn finding(out: &mut [u8], used: usize, found: Finding) -> usize {
-    let told = found.told;
-    tellings::numbered(out, used, told, found.number)
-}
-
-// The end of a translation's line, ` CODE NUMBER PAR VALUE LOW HIGH` and the bytes written, and the rest of the room.
-fn translated_lines(out: &mut [u8], used: usize, translated: Translated, room: &[u8]) -> usize {
-    let found = text::finding_of(translated);
-    let told = found.told;
-    let size = text::bytes_of(translated);
-    tellings::written(out, used, told, found.number, room, size)
-}
-
-fn translated(out: &mut [u8], used: usize, way: Way, bytes: &[u8], room: &mut [u8]) -> usize {
-    match way {
-        Way::ToList => {
-            let used = output::text(out, used, b"assembled");
-            let translated = text::assemble(bytes, room);
-            translated_lines(out, used, translated, room)
-        }
-        Way::ToText => {
-            let used = output::text(out, used, b"listed");
-            let translated = text::list_text(bytes, room);
-            translated_lines(out, used, translated, room)
-        }
-    }
-}
-
-// 0a, a room's length of two bytes, and a text: `assembled CODE LINE PAR VALUE LOW HIGH` and the bytes of its list, and a line `rest`.
-// 0b, a room's length of two bytes, and a raw list: `listed CODE NUMBER PAR VALUE LOW HIGH` and the bytes of its text, and a line `rest`.
-pub fn translate(place: Place, s: &[u8], out: &mut [u8], way: Way) -> Place {
+// What 0a and 0b have in common: a room's length of two bytes, and the bytes that are translated.
+fn translated<T: Fn(&[u8], &mut [u8]) -> Result<usize, Refusal>>(
+    place: Place,
+    s: &[u8],
+    out: &mut [u8],
+    word: &[u8],
+    translate: T,
+) -> Place
+    requires { T.IsAlwaysCallable translate }
+{
     let length = script::take(s, place.at, 2);
     let bytes = script::take_long(s, length.to);
     if !bytes.whole {
@@ -52,47 +41,61 @@ pub fn translate(place: Place, s: &[u8], out: &mut [u8], way: Way) -> Place {
     }
     let mut room = [FILL; rooms::LARGEST];
     let length = rooms::capped(words::half_at(s, length.from), rooms::LARGEST);
-    let list = script::bytes(s, bytes);
-    let used = translated(out, place.used, way, list, &mut room[0..length]);
+    let room = &mut room[..length];
+    let answer = translate(script::bytes(s, bytes), room);
+    let used = output::text(out, place.used, word);
+    let used = translated_lines(out, used, answer, room);
     place.answered(bytes.to, used)
 }
 
-fn typed_lines(out: &mut [u8], used: usize, ran: TypedRan, room: &[u8]) -> usize {
-    let begun = ran.begun;
+/// 0a, a room's length of two bytes, and a text: `assembled CODE LINE PAR VALUE LOW HIGH` and the bytes of its list, and a line `rest`.
+pub fn assemble(place: Place, s: &[u8], out: &mut [u8]) -> Place {
+    translated(
+        place,
+        s,
+        out,
+        b"assembled",
+        |typed, room| text::assemble(typed, room),
+    )
+}
+
+/// 0b, a room's length of two bytes, and a raw list: `listed CODE NUMBER PAR VALUE LOW HIGH` and the bytes of its text, and a line `rest`.
+pub fn list(place: Place, s: &[u8], out: &mut [u8]) -> Place {
+    translated(
+        place,
+        s,
+        out,
+        b"listed",
+        |raw, room| text::list_text(raw, room),
+    )
+}
+
+fn typed_lines(out: &mut [u8], used: usize, ran: &Result<Ran, TypedRefusal>, room: &[u8]) -> usize {
+    let found = bench::finding_of(ran);
     let used = output::text(out, used, b"typed");
-    let used = finding(out, used, bench::finding_of(begun));
-    reports::lines(out, used, ran.kit, ran.pupil, room)
+    let used = tellings::numbered(out, used, found.told, found.number);
+    reports::lines(out, used, ran, room)
 }
 
-fn carried(state: State, out: &mut [u8], kit: &[u8], text: &[u8], room: &mut [u8]) -> State {
-    let bench = state.bench;
-    let place = state.place;
-    let ran = bench.run_typed(kit, text, room);
-    let used = typed_lines(out, place.used, ran, room);
-    let bench = ran.bench;
-    let place = place.answered(place.at, used);
-    State { bench, place }
-}
-
-// 0c, a room's length of two bytes, the kit's raw list and a text: `typed CODE LINE PAR VALUE LOW HIGH KIT PUPIL`, then the records and the rest as
-// 03 has them.
+/// 0c, a room's length of two bytes, the kit's raw list and a text: `typed CODE LINE PAR VALUE LOW HIGH KIT PUPIL`, then the records and the rest as
+/// 03 has them.
 pub fn run(state: State, s: &[u8], out: &mut [u8]) -> State {
     let place = state.place;
-    let length = script::take(s, place.at, 2);
-    let kit = script::take_long(s, length.to);
-    let text = script::take_long(s, kit.to);
-    if !text.whole {
+    let Some(lists) = two_lists(s, place.at) else {
         return state.went_on(place.bad(out));
-    }
+    };
     let mut room = [FILL; rooms::LARGEST];
-    let length = rooms::capped(words::half_at(s, length.from), rooms::LARGEST);
-    let state = state.went_on(place.answered(text.to, place.used));
-    let kit = script::bytes(s, kit);
-    let text = script::bytes(s, text);
-    carried(state, out, kit, text, &mut room[0..length])
+    let length = rooms::capped(lists.length, rooms::LARGEST);
+    let room = &mut room[..length];
+    let ran = state.bench.run_typed(lists.kit, lists.pupil, room);
+    let used = typed_lines(out, place.used, &ran, room);
+    State {
+        bench: reports::bench_after(state.bench, ran),
+        place: place.answered(lists.end, used),
+    }
 }
 
-// 0d, a text and a number of four bytes: `line` and the bytes of that line, nothing behind it where there are none.
+/// 0d, a text and a number of four bytes: `line` and the bytes of that line, nothing behind it where there are none.
 pub fn line(place: Place, s: &[u8], out: &mut [u8]) -> Place {
     let typed = script::take_long(s, place.at);
     let number = script::take(s, typed.to, 4);
