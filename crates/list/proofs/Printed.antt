@@ -9,7 +9,9 @@ use lib.ListN.{length, take, drop, length-drop}
 use lib.Seq.{take_at, take-append-le, drop-append-le, drop-append-add}
 use lib.Dec.{ltb}
 use borrow.Author.Tests.{lt-ltb}
+use Rattle.std.specs.Prelude.{Result, Ok, Err}
 use Rattle.words.specs.BigEndian.{bytes_of}
+use Rattle.words.specs.Codes.{answer_code}
 use Rattle.words.specs.Text.{ascii, decimal_in}
 use Rattle.words.proofs.Laws.{with_room}
 use Rattle.wire.specs.Read.{sum_of, read_of, span_of}
@@ -19,9 +21,11 @@ use Rattle.walk.specs.Walk.{rests}
 use Rattle.report.specs.Record.{record_length, report_room}
 use Rattle.bench.specs.declared.Bench.{Bench}
 use Rattle.bench.specs.declared.lists.Ran.{Ran}
+use Rattle.bench.specs.declared.lists.RunRefusal.{RunRefusal}
 use Rattle.bench.specs.Carry.{taken}
 use Rattle.bench.specs.Run.{ran_of, begun_code, run_of, run_rests, kit_part, pupil_part, report_of, room_after}
 use Rattle.bench.specs.Status.{fresh_bench}
+use Rattle.bench.specs.Steps.{begun_some}
 use Rattle.bench.proofs.Sound.{fresh_sound}
 use Rattle.bench.proofs.Report.{verdict_at}
 use Rattle.bench.proofs.Report as report
@@ -66,10 +70,20 @@ module _ (b : Bench) (kit pupil room : List ℕ) (fresh : b ≡ fresh_bench) (ow
       go true is = absurd (omega (arith, is, accepted))
       go false is = text
 
+-- The code that is told of an answer is the one that it has.
+pub coded : (b : Bench) (answer : Result Ran RunRefusal) → answer_code begun_code answer ≡ (ran_of b answer).code
+coded b (Ok r) = refl
+coded b (Err refusal) = refl
+
+-- No refusal has code 0.
+pub refused_some : (b : Bench) (kit pupil room : List ℕ) (refusal : RunRefusal) → ran_of b (Err refusal) ≡ run_of b kit pupil room
+    → (run_of b kit pupil room).code ≡ 0 → ⊥
+refused_some b kit pupil room refusal told none = omega (arith, begun_some refusal, ap (λ t. t.code) told, none)
+
 -- The records of a run that was carried out are as many bytes at the front of its room as its two counts say.
-module _ (b : Bench) (kit pupil room : List ℕ) (r : Ran) (told : ran_of r ≡ run_of b kit pupil room) (done : begun_code r.begun ≡ 0) where
-  accepted : (run_of b kit pupil room).code ≡ 0
-  accepted = sym (ap (λ t. t.code) told) ∙ done
+module _ (b : Bench) (kit pupil room : List ℕ) (r : Ran) (told : ran_of b (Ok r) ≡ run_of b kit pupil room) where
+  pub accepted : (run_of b kit pupil room).code ≡ 0
+  accepted = sym (ap (λ t. t.code) told)
 
   pub records_long : length (report_of b kit pupil) ≡ (r.kit + r.pupil) * record_length
   records_long =
@@ -85,12 +99,13 @@ module _ (b : Bench) (kit pupil room : List ℕ) (r : Ran) (told : ran_of r ≡ 
       let passed = report.passed b kit pupil room accepted in
       report.report_fits b kit pupil passed.kit_short passed.pupil_short
 
-  pub records_front : take ((r.kit + r.pupil) * record_length) (room_after b kit pupil room) ≡ report_of b kit pupil
+  pub records_front : (left : List ℕ) → left ≡ room_after b kit pupil room → take ((r.kit + r.pupil) * record_length) left ≡ report_of b kit pupil
   unfolding room_after run_of
-  records_front =
+  records_front left is =
       let enough = (report.passed b kit pupil room accepted).enough in
       let stays = drop (length (report_of b kit pupil)) room in
-      rw (accepted, with_room (report_of b kit pupil) room (omega (arith, enough, records_fit)))
+      ap (take ((r.kit + r.pupil) * record_length)) is
+      ∙ rw (accepted, with_room (report_of b kit pupil) room (omega (arith, enough, records_fit)))
       (take_at (report_of b kit pupil) stays ((r.kit + r.pupil) * record_length) records_long)
 
 -- So the lines under the header are the kit's and then the pupil's, each with its own sender's numbers from 1 on and the verdict on that command.

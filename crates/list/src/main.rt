@@ -1,5 +1,5 @@
-// The list program: reads the pupil's raw list from standard input, runs the kit's list and then the pupil's on a fresh bench, and prints the report,
-// or one line where the run was refused. The whole text is made first, and written at once.
+//! The list program: reads the pupil's raw list from standard input, runs the kit's list and then the pupil's on a fresh bench, and prints the report,
+//! or one line where the run was refused. The whole text is made first, and written at once.
 #![tactic(auto)]
 
 ghost use Rattle.std.specs.Prelude.{◌≡◌, ◌≤◌, ◌++◌, length, drop};
@@ -41,26 +41,22 @@ fn put_printed(text: &mut [u8], pupil: &[u8]) -> usize
     let mut records = report_room();
     let bench = Bench::fresh();
     let ran = bench.run(&kit, pupil, &mut records);
-    let begun = ran.begun;
-    let code = bench::code_of(begun);
-    if code != 0 {
-        return listing::bytes_of(listing::put_refusal(text, Numbered::Lines, text::of_whole(code)));
+    let code = bench::code_of(&ran);
+    match ran {
+        Err(_) => listing::put_refusal(text, Numbered::Lines, text::of_whole(code)).unwrap_or(0),
+        Ok(ran) => {
+            let end = (ran.kit as usize + ran.pupil as usize) * report::RECORD;
+            listing::put_report(text, &records[..end]).unwrap_or(0)
+        }
     }
-    let end = (ran.kit as usize + ran.pupil as usize) * report::RECORD;
-    listing::bytes_of(listing::put_report(text, &records[..end]))
 }
 
 fn main(rt: HostRuntime) {
     let mut pupil = input_room();
-    let input = input::read_input(&mut rt.stdin(), &mut pupil);
-    if input.failed {
-        let _ = eprintln!(rt; "list: standard input cannot be read");
+    let Some(read) = input::read_whole("list", &mut rt.stdin(), &mut rt.stderr(), &mut pupil) else {
         return;
-    }
-    let read = input.bytes;
+    };
     let mut text = text_room();
-    let put = put_printed(&mut text, &pupil[..read]);
-    if rt.stdout().write_all(&text[..put]).is_err() {
-        let _ = eprintln!(rt; "list: standard output cannot be written");
-    }
+    let put = put_printed(&mut text, read);
+    input::write_whole("list", &mut rt.stdout(), &mut rt.stderr(), &text[..put]);
 }

@@ -13,7 +13,8 @@ use Rattle.words.proofs.Laws.{with_room}
 use Rattle.words.proofs.Decimal.{digits_few, digits_below}
 use Rattle.report.specs.Record.{record_length}
 use Rattle.listing.specs.declared.Fields.{Fields}
-use Rattle.std.specs.Prelude.{Result}
+use Rattle.std.specs.Prelude.{Result, Ok, Err}
+use Rattle.std.specs.Result.{result_unwrap_or}
 use Rattle.words.specs.declared.codes.NoRoom.{NoRoom}
 use Rattle.listing.specs.Answer.{answer_of, answer_for}
 use Rattle.listing.specs.Text.{
@@ -115,12 +116,17 @@ text_short report bytes = omega (arith, length_text report, lines_short report b
 
 -- A writer that has room says how many bytes it put.
 put_whole : (put : Result ℕ NoRoom) (bytes room : List ℕ) → answer_of put ≡ answer_for bytes room → length bytes ≤ length room
-    → (answer_of put).bytes ≡ length bytes
-put_whole put bytes room told fits = ap (λ a. a.bytes) told ∙ simp (le-leb _ _ fits)
+    → result_unwrap_or put 0 ≡ length bytes
+put_whole put bytes room told fits = go put ∙ ap (λ a. a.bytes) told ∙ simp (le-leb _ _ fits)
+  where
+    go : (p : Result ℕ NoRoom) → result_unwrap_or p 0 ≡ (answer_of p).bytes
+    go (Ok n) = refl
+    go (Err refusal) = refl
 
 -- So what it put, which is what is wanted, stands at the front of its room.
-pub put_front : (put : Result ℕ NoRoom) (n : ℕ) (bytes wanted room after : List ℕ) → bytes ≡ wanted → length bytes ≤ length room → n ≡ (answer_of put).bytes
-    → answer_of put ≡ answer_for bytes room → after ≡ written bytes room → (n ≡ length wanted) × (after ≡ wanted ++ drop (length wanted) room)
+pub put_front : (put : Result ℕ NoRoom) (n : ℕ) (bytes wanted room after : List ℕ) → bytes ≡ wanted → length bytes ≤ length room
+    → n ≡ result_unwrap_or put 0 → answer_of put ≡ answer_for bytes room → after ≡ written bytes room
+    → (n ≡ length wanted) × (after ≡ wanted ++ drop (length wanted) room)
 put_front put n bytes wanted room after is fits count told left = (
   count ∙ put_whole put bytes room told fits ∙ ap length is,
   left ∙ with_room bytes room fits ∙ ap (λ l. l ++ drop (length l) room) is,

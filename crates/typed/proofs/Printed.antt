@@ -3,12 +3,13 @@
 use Prim.Native.Nat.{ℕ, ◌+◌, ◌*◌, ◌≤◌, ◌<◌}
 use mathlib.Core.Path.{◌≡◌, refl, sym, ap, ◌∙◌}
 use mathlib.Core.List.{List, [], ◌∷◌, append-nil}
-use mathlib.Core.Bool.{Bool, true, false, not, ◌||◌}
+use mathlib.Core.Bool.{Bool, true, false, not, ◌||◌, true≢false}
 use native.Mathlib.Omega.{arith}
 use lib.ListN.{length, get_or, take, drop}
 use lib.Seq.{take_at, drop-length}
-use lib.Dec.{ltb}
+use lib.Dec.{eqb, ltb}
 use borrow.Author.Tests.{eq-eqb, ne_eqb}
+use Rattle.std.specs.Prelude.{Result, Ok, Err}
 use Rattle.words.specs.BigEndian.{bytes_of, written}
 use Rattle.words.specs.Codes.{◌when◌}
 use Rattle.words.proofs.Laws.{with_room}
@@ -20,14 +21,16 @@ use Rattle.text.specs.declared.findings.Finding.{Finding}
 use Rattle.text.specs.Findings.{whole, first_found}
 use Rattle.text.specs.Assemble.{line_numbers, bytes_in, bad_line, text_findings}
 use Rattle.bench.specs.declared.Bench.{Bench}
-use Rattle.bench.specs.declared.lists.typed.TypedRan.{TypedRan}
+use Rattle.bench.specs.declared.lists.Ran.{Ran}
+use Rattle.bench.specs.declared.lists.typed.TypedRefusal.{TypedRefusal}
 use Rattle.bench.specs.Status.{fresh_bench, sound_check}
 use Rattle.bench.specs.Run.{kit_part}
-use Rattle.bench.specs.Typed.{typed_found, typed_report, begun_finding, typed_ran_of, typed_of, typed_room}
+use Rattle.bench.specs.Typed.{typed_found, typed_report, begun_finding, ran_finding, typed_ran_of, typed_of, typed_room}
 use Rattle.bench.proofs.Sound.{fresh_sound}
 use Rattle.bench.proofs.InTurn.{typed_even}
 use Rattle.bench.proofs.Report.{verdict_at, record_at, both_long, both_fit, kit_placed, pupil_placed}
 use Rattle.bench.proofs.TypedReport.{passed, kit_count, pupil_count}
+use Rattle.text.proofs.Found.{fault_code}
 use Rattle.listing.specs.declared.refusals.Numbered.{Numbered}
 use Rattle.listing.specs.Kit.{kit_bytes}
 use Rattle.listing.specs.Text.{line_at, report_text}
@@ -80,11 +83,31 @@ module _ (b : Bench) (kit typed room : List ℕ) (fresh : b ≡ fresh_bench) (ow
   unfolding printed
   prints_report accepted = rw (eq-eqb (found typed).told.code 0 (sym (ap (λ f. f.told.code) same_found) ∙ accepted)) text
 
+-- What is told of an answer is the finding that it has.
+pub found_in : (b : Bench) (answer : Result Ran TypedRefusal) → ran_finding answer ≡ (typed_ran_of b answer).found
+found_in b (Ok r) = refl
+found_in b (Err refusal) = refl
+
+-- No refusal has code 0.
+some_code : (refusal : TypedRefusal) → (begun_finding refusal).told.code ≡ 0 → ⊥
+some_code TypedRefusal.TooLong none = omega (arith, none)
+some_code (TypedRefusal.BadLine number fault) none = true≢false (sym (ap (λ n. eqb n 0) none) ∙ fault_code fault)
+some_code TypedRefusal.RoomTooSmall none = omega (arith, none)
+some_code TypedRefusal.Unsound none = omega (arith, none)
+
+pub refused_some : (b : Bench) (kit typed room : List ℕ) (refusal : TypedRefusal) → typed_ran_of b (Err refusal) ≡ typed_of b kit typed room
+    → (typed_found b kit typed room).told.code ≡ 0 → ⊥
+unfolding typed_of
+refused_some b kit typed room refusal told none = some_code refusal (ap (λ t. t.found.told.code) told ∙ none)
+
 -- The records of a run that was carried out are as many bytes at the front of its room as its two counts say.
-module _ (b : Bench) (kit typed room : List ℕ) (r : TypedRan) (told : typed_ran_of r ≡ typed_of b kit typed room)
-    (done : (begun_finding r.begun).told.code ≡ 0) where
+module _ (b : Bench) (kit typed room : List ℕ) (r : Ran) (told : typed_ran_of b (Ok r) ≡ typed_of b kit typed room) where
   accepted : (typed_of b kit typed room).found.told.code ≡ 0
-  accepted = sym (ap (λ t. t.found.told.code) told) ∙ done
+  accepted = sym (ap (λ t. t.found.told.code) told)
+
+  pub none_found : (typed_found b kit typed room).told.code ≡ 0
+  unfolding typed_of
+  none_found = accepted
 
   pub records_long : length (typed_report b kit typed) ≡ (r.kit + r.pupil) * record_length
   records_long =
@@ -100,12 +123,13 @@ module _ (b : Bench) (kit typed room : List ℕ) (r : TypedRan) (told : typed_ra
       let p = passed b kit typed room accepted in
       both_fit b kit (line_numbers typed) (bytes_in typed) (typed_even typed) p.kit_short p.list_short
 
-  pub records_front : take ((r.kit + r.pupil) * record_length) (typed_room b kit typed room) ≡ typed_report b kit typed
+  pub records_front : (left : List ℕ) → left ≡ typed_room b kit typed room → take ((r.kit + r.pupil) * record_length) left ≡ typed_report b kit typed
   unfolding typed_room typed_of
-  records_front =
+  records_front left is =
       let enough = (passed b kit typed room accepted).enough in
       let stays = drop (length (typed_report b kit typed)) room in
-      rw (accepted, with_room (typed_report b kit typed) room (omega (arith, enough, records_fit)))
+      ap (take ((r.kit + r.pupil) * record_length)) is
+      ∙ rw (accepted, with_room (typed_report b kit typed) room (omega (arith, enough, records_fit)))
       (take_at (typed_report b kit typed) stays ((r.kit + r.pupil) * record_length) records_long)
 
 -- Under the header stand the kit's lines and then the pupil's: each has the verdict on its command, the kit's its number in the kit's own list, and

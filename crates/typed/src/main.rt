@@ -1,5 +1,5 @@
-// The program for pupils: reads a typed list from standard input, runs the kit's list and then the typed one on a fresh bench, and prints the report,
-// in which the pupil's numbers are lines of the text, or one line where the text was refused. The whole text is made first, and written at once.
+//! The program for pupils: reads a typed list from standard input, runs the kit's list and then the typed one on a fresh bench, and prints the report,
+//! in which the pupil's numbers are lines of the text, or one line where the text was refused. The whole text is made first, and written at once.
 #![tactic(auto)]
 
 ghost use Rattle.std.specs.Prelude.{◌≡◌, ◌≤◌, ◌++◌, length, drop};
@@ -41,27 +41,23 @@ fn put_printed(room: &mut [u8], typed: &[u8]) -> usize
     let mut records = report_room();
     let bench = Bench::fresh();
     let ran = bench.run_typed(&kit, typed, &mut records);
-    let begun = ran.begun;
-    let found = bench::finding_of(begun);
-    let told = found.told;
-    if told.code != 0 {
-        return listing::bytes_of(listing::put_refusal(room, Numbered::Lines, found));
+    let found = bench::finding_of(&ran);
+    match ran {
+        Err(_) => listing::put_refusal(room, Numbered::Lines, found).unwrap_or(0),
+        Ok(ran) => {
+            let end = (ran.kit as usize + ran.pupil as usize) * report::RECORD;
+            listing::put_report(room, &records[..end]).unwrap_or(0)
+        }
     }
-    let end = (ran.kit as usize + ran.pupil as usize) * report::RECORD;
-    listing::bytes_of(listing::put_report(room, &records[..end]))
 }
 
 fn main(rt: HostRuntime) {
     let mut typed = input_room();
-    let input = input::read_input(&mut rt.stdin(), &mut typed);
-    if input.failed {
-        let _ = eprintln!(rt; "typed: standard input cannot be read");
+    let Some(read) = input::read_whole("typed", &mut rt.stdin(), &mut rt.stderr(), &mut typed)
+    else {
         return;
-    }
-    let read = input.bytes;
+    };
     let mut room = text_room();
-    let put = put_printed(&mut room, &typed[..read]);
-    if rt.stdout().write_all(&room[..put]).is_err() {
-        let _ = eprintln!(rt; "typed: standard output cannot be written");
-    }
+    let put = put_printed(&mut room, read);
+    input::write_whole("typed", &mut rt.stdout(), &mut rt.stderr(), &room[..put]);
 }
