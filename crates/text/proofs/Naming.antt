@@ -1,15 +1,16 @@
 -- Names of the table, and texts that are none.
-use Prim.Native.Nat.{ℕ}
+use Prim.Native.Nat.{ℕ, suc, ◌+◌, ◌<◌, ◌≤◌}
 use mathlib.Core.Path.{◌≡◌, refl, sym, ap, ◌∙◌}
-use mathlib.Core.List.{List}
-use mathlib.Core.Bool.{Bool, true, false, true≢false}
-use lib.ListN.{length}
-use lib.Dec.{leb}
+use mathlib.Core.List.{List, ◌++◌}
+use mathlib.Core.Bool.{true, false, cond}
+use native.Mathlib.Numerals.{add-one}
+use lib.ListN.{length, get_or, drop, drop_of_length-le}
+use lib.Seq.{drop-cons}
 use borrow.Author.Tests.{ne_eqb}
 use Rattle.wire.specs.declared.table.Form.{Form}
 use Rattle.words.specs.Text.{ascii}
-use Rattle.wire.specs.Table.{row_of, name_of}
-use Rattle.text.specs.Names.{macro_named, form_named}
+use Rattle.wire.specs.Table.{name_of, guide_forms, macro_forms}
+use Rattle.text.specs.Names.{named_in, macro_named, form_named}
 use Rattle.text.specs.Number.{fraction_of}
 use Rattle.text.specs.Split.{same_text}
 use Rattle.text.proofs.Texts.{same_equal}
@@ -34,61 +35,30 @@ name_back Form.Wait = refl
 name_back Form.Stop = refl
 name_back Form.Clear = refl
 
-pub named_as : (s : List ℕ) (f : Form) → same_text s (name_of f) ≡ true → Some f ≡ form_named s
-named_as s f e = sym (ap form_named (same_equal s (name_of f) e) ∙ name_back f)
+-- No form before those that are left has the name: the search goes on with them.
+pub record Searched (name : List ℕ) (forms : List Form) (i : ℕ) : Type 0 where
+  pub rest : named_in name (drop i forms) None ≡ form_named name
 
--- A form about macros, whose opcode is 0x7fxx, is found by its name among those alone.
-abbrev about_macros : Form → Bool
-about_macros f = leb 0x7f00 (row_of f).opcode
+pub searched_none : (name : List ℕ) → Searched name (guide_forms ++ macro_forms) 0
+unfolding form_named macro_named
+searched_none name = record { rest = refl }
 
-macro_back : (f : Form) → about_macros f ≡ true → macro_named (name_of f) ≡ Some f
-unfolding macro_named same_text
-macro_back Form.ImgPwr is = absurd (true≢false (sym is))
-macro_back Form.ImgRegion is = absurd (true≢false (sym is))
-macro_back Form.ImgTrack is = absurd (true≢false (sym is))
-macro_back Form.TrkAlg is = absurd (true≢false (sym is))
-macro_back Form.TrkLoop is = absurd (true≢false (sym is))
-macro_back Form.ImgImage is = absurd (true≢false (sym is))
-macro_back Form.TrkGoal is = absurd (true≢false (sym is))
-macro_back Form.TlmFlush is = absurd (true≢false (sym is))
-macro_back Form.FlushAuto is = absurd (true≢false (sym is))
-macro_back Form.Open is = refl
-macro_back Form.Close is = refl
-macro_back Form.Run is = refl
-macro_back Form.Wait is = refl
-macro_back Form.Stop is = refl
-macro_back Form.Clear is = refl
+module _ (name : List ℕ) (forms : List Form) (i : ℕ) (searched : Searched name forms i) where
+  module _ (other : Form) (more : i < length forms) (text : List ℕ) (is : text ≡ name_of (get_or forms i other)) where
+    step : cond (same_text name text) (Some (get_or forms i other)) (named_in name (drop (suc i) forms) None) ≡ form_named name
+    step = rw is (sym (ap (λ fs. named_in name fs None) (drop-cons forms i other more)) ∙ searched.rest)
 
-pub macro_as : (s : List ℕ) (f : Form) → about_macros f ≡ true → same_text s (name_of f) ≡ true → Some f ≡ macro_named s
-macro_as s f is e = sym (ap macro_named (same_equal s (name_of f) e) ∙ macro_back f is)
+    pub searched_found : same_text name text ≡ true → Some (get_or forms i other) ≡ form_named name
+    searched_found same = rw same at step
+
+    pub searched_on : same_text name text ≡ false → Searched name forms (i + 1)
+    searched_on differs = record { rest = rw add-one (rw differs at step) }
+
+  pub searched_all : length forms ≤ i → None ≡ form_named name
+  searched_all end = ap (λ fs. named_in name fs None) (sym (drop_of_length-le forms end)) ∙ searched.rest
 
 abbrev pub Unlike : List ℕ → List ℕ → Type 0
 Unlike s name = same_text s name ≡ false
-
-pub no_guide : (s : List ℕ) (rest : Option Form) → rest ≡ macro_named s
-    → Unlike s (name_of Form.ImgPwr)
-    → Unlike s (name_of Form.ImgRegion)
-    → Unlike s (name_of Form.ImgTrack)
-    → Unlike s (name_of Form.TrkAlg)
-    → Unlike s (name_of Form.TrkLoop)
-    → Unlike s (name_of Form.ImgImage)
-    → Unlike s (name_of Form.TrkGoal)
-    → Unlike s (name_of Form.TlmFlush)
-    → Unlike s (name_of Form.FlushAuto)
-    → rest ≡ form_named s
-unfolding form_named
-no_guide s rest is e1 e2 e3 e4 e5 e6 e7 e8 e9 = rw (e1, e2, e3, e4, e5, e6, e7, e8, e9) is
-
-pub no_macro : (s : List ℕ)
-    → Unlike s (name_of Form.Open)
-    → Unlike s (name_of Form.Close)
-    → Unlike s (name_of Form.Run)
-    → Unlike s (name_of Form.Wait)
-    → Unlike s (name_of Form.Stop)
-    → Unlike s (name_of Form.Clear)
-    → None ≡ macro_named s
-unfolding macro_named
-no_macro s e1 e2 e3 e4 e5 e6 = rw (e1, e2, e3, e4, e5, e6)
 
 -- The ends of a goal.
 pub fraction_as : (s t : List ℕ) (n : Option ℕ) → same_text s t ≡ true → fraction_of t ≡ n → n ≡ fraction_of s

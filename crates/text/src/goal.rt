@@ -53,8 +53,8 @@ pub fn quarters_in(bits: u32) -> Option<u32>
         return None;
     }
     let guess = guess_of(bits);
-    if goal_bits(guess) == bits {
-        return Some(guess);
+    if goal_bits(guess) != bits {
+        return None;
     }
-    None
+    Some(guess)
 }

@@ -2,30 +2,23 @@
 ghost use Rattle.std.specs.Prelude.{◌+◌, ◌≤◌, ◌≡◌, ◌∷◌, length};
 ghost use Rattle.std.proofs.lemmas.List.Edits.{sets};
 ghost use Rattle.words.specs.Text.{decimal, place_after, stored_at};
-ghost use Rattle.wire.specs.Table.{name_of};
 ghost use Rattle.text.specs.Split.{space};
 ghost use Rattle.text.specs.Goal.{quarters_in};
 ghost use Rattle.text.specs.Findings.{translated_of};
-ghost use Rattle.text.specs.Lister.{fraction, said_text, arguments_text, is_said, can_say, listed_as, listed_room};
+ghost use Rattle.text.specs.Lister.{fraction, said_text, arguments_text, can_say, listed_as, listed_room};
 ghost use Rattle.text.specs.ListSteps.{mark, ended_line, offer_of, offered_at, Lined};
 
 use super::findings::{Fault, Refusal};
 use super::goal::quarters_in;
+use super::names::name_of;
 use walk::Commands;
-use wire::{Command, Form, Layout};
+use wire::{Command, Layout};
 
 // The text of the longest list fits: a line is at most twice as long as its command's bytes.
 const BUFFER: usize = 2 * walk::LONGEST;
 
 // Quarters in a whole.
 const WHOLE: u32 = 4;
-
-// Can text say the goal with these bits?
-fn is_said(bits: u32) -> bool
-    ensures { result ≡ is_said (quarters_in bits) }
-{
-    quarters_in(bits).is_some()
-}
 
 // Can text say a command's arguments?
 fn can_say(command: Command) -> bool
@@ -34,7 +27,9 @@ fn can_say(command: Command) -> bool
     let parts = wire::parts_of(command.kind);
     match wire::row_of(parts.form).layout {
         Layout::Bare | Layout::Byte | Layout::Half | Layout::Halves => true,
-        Layout::Singles => is_said(parts.first) && is_said(parts.second),
+        Layout::Singles => {
+            quarters_in(parts.first).is_some() && quarters_in(parts.second).is_some()
+        }
     }
 }
 
@@ -60,32 +55,7 @@ fn put_flag(buffer: &mut [u8], at: usize, flag: bool) -> usize
     if flag {
         words::put_at(buffer, at, b"+")
     } else {
-        words::put_at(buffer, at, b"")
-    }
-}
-
-// The name of a command.
-#[tactic(auto, unfolding(wire::specs::Table::name_of))]
-fn put_name(buffer: &mut [u8], at: usize, form: Form) -> usize
-    ensures value { result ≡ place_after (name_of form) at buffer.old }
-    ensures buffer_after { buffer.new ≡ stored_at (name_of form) at buffer.old }
-{
-    match form {
-        Form::ImgPwr => words::put_at(buffer, at, b"img_pwr"),
-        Form::ImgRegion => words::put_at(buffer, at, b"img_region"),
-        Form::ImgTrack => words::put_at(buffer, at, b"img_track"),
-        Form::TrkAlg => words::put_at(buffer, at, b"trk_alg"),
-        Form::TrkLoop => words::put_at(buffer, at, b"trk_loop"),
-        Form::ImgImage => words::put_at(buffer, at, b"img_image"),
-        Form::TrkGoal => words::put_at(buffer, at, b"trk_goal"),
-        Form::TlmFlush => words::put_at(buffer, at, b"tlm_flush"),
-        Form::FlushAuto => words::put_at(buffer, at, b"flush_auto"),
-        Form::Open => words::put_at(buffer, at, b"open"),
-        Form::Close => words::put_at(buffer, at, b"close"),
-        Form::Run => words::put_at(buffer, at, b"run"),
-        Form::Wait => words::put_at(buffer, at, b"wait"),
-        Form::Stop => words::put_at(buffer, at, b"stop"),
-        Form::Clear => words::put_at(buffer, at, b"clear"),
+        at
     }
 }
 
@@ -104,16 +74,12 @@ fn put_fraction(buffer: &mut [u8], at: usize, quarters: u32) -> usize
     ensures value { result ≡ place_after (fraction quarters) at buffer.old }
     ensures buffer_after { buffer.new ≡ stored_at (fraction quarters) at buffer.old }
 {
-    if quarters < 1 {
-        return words::put_at(buffer, at, b"");
+    match quarters {
+        0 => at,
+        1 => words::put_at(buffer, at, b".25"),
+        2 => words::put_at(buffer, at, b".5"),
+        _ => words::put_at(buffer, at, b".75"),
     }
-    if quarters < 2 {
-        return words::put_at(buffer, at, b".25");
-    }
-    if quarters < 3 {
-        return words::put_at(buffer, at, b".5");
-    }
-    words::put_at(buffer, at, b".75")
 }
 
 // A goal after a space; the space alone where the text cannot say it.
@@ -160,7 +126,7 @@ fn put_line(buffer: &mut [u8], at: usize, command: Command) -> usize
     let parts = wire::parts_of(command.kind);
     let row = wire::row_of(parts.form);
     let at = put_flag(buffer, at, command.flag);
-    let at = put_name(buffer, at, parts.form);
+    let at = words::put_at(buffer, at, name_of(parts.form));
     let at = put_arguments(buffer, at, row.layout, parts.first, parts.second);
     words::put_at(buffer, at, b"\n")
 }

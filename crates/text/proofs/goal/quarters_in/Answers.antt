@@ -7,7 +7,7 @@ pub returns-then-bits-gt-LAST_GOAL : goal.returns-then-bits-gt-LAST_GOAL
 returns-then-bits-gt-LAST_GOAL c = too_large _ c.if-bits-gt-LAST_GOAL.true
 
 pub returns-then-goal_bits-bits : goal.returns-then-goal_bits-bits
-returns-then-goal_bits-bits c = guessed _ _ c.guess_of-guess.ensures c.if-bits-gt-LAST_GOAL.false (sym c.goal_bits.ensures ∙ c.if-goal_bits-bits.true)
+returns-then-goal_bits-bits c = not_guessed _ _ c.guess_of-guess.ensures (λ e. c.if-goal_bits-bits.true (c.goal_bits.ensures ∙ e))
 
 pub returns : goal.returns
-returns c = not_guessed _ _ c.guess_of-guess.ensures (λ e. c.if-goal_bits-bits.false (c.goal_bits.ensures ∙ e))
+returns c = guessed _ _ c.guess_of-guess.ensures c.if-bits-gt-LAST_GOAL.false (sym c.goal_bits.ensures ∙ c.if-goal_bits-bits.false)
