@@ -1,19 +1,20 @@
 -- The line of a refusal: where it was found, by cases, and how long the line is.
 use Prim.Native.Nat.{ℕ, ◌+◌, ◌≤◌, ◌<◌}
 use mathlib.Core.Path.{◌≡◌, refl, ap, ◌∙◌}
-use mathlib.Core.List.{List, [], ◌++◌, append-nil}
+use mathlib.Core.List.{List, [], ◌∷◌, ◌++◌, append-nil}
 use mathlib.Core.Bool.{Bool, true, false, cond}
 use native.Mathlib.Omega.{arith}
 use lib.ListN.{length, length-append}
 use lib.Seq.{sets}
 use lib.Dec.{eqb}
 use borrow.Author.Tests.{eq-eqb, ne_eqb, eqb-true}
-use Rattle.words.specs.Text.{decimal, stored_at, place_after}
+use Rattle.words.specs.Text.{ascii, decimal, stored_at, place_after}
 use Rattle.words.proofs.Decimal.{digits_few, digits_below}
 use Rattle.words.proofs.Stores.{Laid, laid_next, laid_fits, laid_more}
 use Rattle.wire.specs.declared.judging.Stray.{Stray}
 use Rattle.text.specs.declared.findings.Finding.{Finding}
 use Rattle.listing.specs.declared.refusals.Numbered.{Numbered}
+use Rattle.listing.specs.Text.{line_feed}
 use Rattle.listing.specs.Refusal.{labelled, word_of, stray_text, wrong_text, place_text, refusal_line, refusal_room}
 
 -- What was wrong with a number is four numbers behind their labels.
@@ -115,3 +116,31 @@ module _ (numbered : Numbered) (found : Finding) where
         pub wrong_laid : (room'' : List ℕ) (at'' : ℕ) → (at'' ≡ at' + length wrong) × (room'' ≡ sets room' at' wrong)
             → Laid room₀ from (place_text numbered found) room'' at''
         wrong_laid room'' at'' put' = rw (place_some some, wrong_some is) (laid_more number_laid wrong room'' at'' put'.0 put'.1)
+
+  -- So is the whole line, from the room's front on.
+  module _ (room₀ : List ℕ) (fits : length (refusal_line numbered found) ≤ length room₀) where
+    abbrev coded : List ℕ
+    coded = labelled (ascii "refused ") found.told.code
+
+    length_coded : length coded ≡ 8 + length (decimal found.told.code)
+    length_coded = length-append (ascii "refused ") (decimal found.told.code)
+
+    pub code_fits : 0 + length coded ≤ length room₀
+    code_fits = omega (arith, length_refusal, length_coded)
+
+    module _ {room₁ : List ℕ} {at₁ : ℕ} (one : (at₁ ≡ 0 + length coded) × (room₁ ≡ sets room₀ 0 coded)) where
+      code_laid : Laid room₀ 0 coded room₁ at₁
+      code_laid = record { place = one.0; stored = one.1 }
+
+      pub place_fits : at₁ + length (place_text numbered found) ≤ length room₁
+      place_fits = laid_fits code_laid (place_text numbered found) (omega (arith, length_refusal, length_coded))
+
+      pub line_laid : {room₂ room₃ : List ℕ} {at₂ at₃ : ℕ}
+          → (at₂ ≡ at₁ + length (place_text numbered found)) × (room₂ ≡ sets room₁ at₁ (place_text numbered found))
+          → (at₃ ≡ place_after (line_feed ∷ []) at₂ room₂) × (room₃ ≡ stored_at (line_feed ∷ []) at₂ room₂)
+          → Laid room₀ 0 (refusal_line numbered found) room₃ at₃
+      unfolding refusal_line
+      line_laid two three =
+          let placed = laid_more code_laid (place_text numbered found) _ _ two.0 two.1 in
+          let long = length-append coded (place_text numbered found) in
+          laid_next placed (line_feed ∷ []) _ _ (omega (arith, length_refusal, length_coded, long)) three.0 three.1

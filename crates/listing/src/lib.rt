@@ -74,13 +74,11 @@ fn put_field(room: &mut [u8], at: usize, value: u32, last: u8) -> usize
 fn name_length(sender: u8) -> usize
     ensures { result ≡ length (name_of sender) }
 {
-    if sender == walk::KIT {
-        return 4;
+    match sender {
+        walk::KIT => 4,
+        walk::PUPIL => 6,
+        _ => words::places(sender as u32) + 1,
     }
-    if sender == walk::PUPIL {
-        return 6;
-    }
-    words::places(sender as u32) + 1
 }
 
 // Puts a sender's name and a blank behind it, from a place on, and says which place comes next.
@@ -89,13 +87,11 @@ fn put_name(room: &mut [u8], at: usize, sender: u8) -> usize
     ensures value { result ≡ at + length (name_of sender) }
     ensures room_after { room.new ≡ sets room.old at (name_of sender) }
 {
-    if sender == walk::KIT {
-        return words::put_at(room, at, b"kit ");
+    match sender {
+        walk::KIT => words::put_at(room, at, b"kit "),
+        walk::PUPIL => words::put_at(room, at, b"pupil "),
+        _ => put_field(room, at, sender as u32, BLANK),
     }
-    if sender == walk::PUPIL {
-        return words::put_at(room, at, b"pupil ");
-    }
-    put_field(room, at, sender as u32, BLANK)
 }
 
 // What the line of a record says, by the record's place from 0.
@@ -104,17 +100,12 @@ fn fields_at(records: &[u8], place: usize) -> Fields
     ensures { result ≡ fields_at records.now place }
 {
     let at = place * report::RECORD;
-    let sender = words::byte_at(records, at);
-    let code = words::byte_at(records, at + report::CODE_AT) as u32;
-    let par = words::byte_at(records, at + report::PAR_AT) as u32;
-    let number = words::word_at(records, at + report::NUMBER_AT);
-    let value = words::word_at(records, at + report::VALUE_AT);
     Fields {
-        sender,
-        number,
-        code,
-        par,
-        value,
+        sender: words::byte_at(records, at),
+        number: words::word_at(records, at + report::NUMBER_AT),
+        code: words::byte_at(records, at + report::CODE_AT) as u32,
+        par: words::byte_at(records, at + report::PAR_AT) as u32,
+        value: words::word_at(records, at + report::VALUE_AT),
     }
 }
 

@@ -73,14 +73,12 @@ fn put_place(room: &mut [u8], at: usize, numbered: Numbered, found: Finding) -> 
     if found.number == 0 {
         return at;
     }
-    let told = found.told;
     let at = put_word(room, at, numbered);
     let at = words::put_decimal(room, at, found.number);
-    if told.code != OUT_OF_RANGE {
+    if found.told.code != OUT_OF_RANGE {
         return at;
     }
-    let stray = told.stray;
-    put_stray(room, at, stray)
+    put_stray(room, at, found.told.stray)
 }
 
 // Puts the line of a finding at the front of a room, and says how many bytes it has.
@@ -89,8 +87,7 @@ fn put_found(room: &mut [u8], numbered: Numbered, found: Finding) -> usize
     ensures value { result ≡ length (refusal_line numbered found) }
     ensures room_after { room.new ≡ sets room.old 0 (refusal_line numbered found) }
 {
-    let told = found.told;
-    let at = put_labelled(room, 0, b"refused ", told.code as u32);
+    let at = put_labelled(room, 0, b"refused ", found.told.code as u32);
     let at = put_place(room, at, numbered, found);
     words::put_at(room, at, b"\n")
 }
@@ -124,8 +121,7 @@ pub fn put_outcome(room: &mut [u8], numbered: Numbered, found: Finding, bytes: u
     ensures room_after { room.new ≡ room_for numbered (outcome found bytes) room.old }
     ensures found_len_bound { length (refusal_line numbered found) ≤ refusal_room }
 {
-    let told = found.told;
-    if told.code != 0 {
+    if found.told.code != 0 {
         return Output {
             bytes: put_refusal(room, numbered, found).unwrap_or(0),
             refused: true,
