@@ -5,7 +5,7 @@ use mathlib.Core.Path.{◌≡◌, refl, sym, ap, ◌∙◌}
 use mathlib.Core.List.{List, [], ◌∷◌, ◌++◌}
 use mathlib.Core.Bool.{Bool, true, false, cond}
 use native.Mathlib.Omega.{arith}
-use lib.ListN.{length, take, drop, length-drop}
+use lib.ListN.{length, take, drop, length-drop, replicate, length-replicate}
 use lib.Seq.{take_at, take-append-le, drop-append-le, drop-append-add}
 use lib.Dec.{ltb}
 use borrow.Author.Tests.{lt-ltb}
@@ -69,6 +69,13 @@ module _ (b : Bench) (kit pupil room : List ℕ) (fresh : b ≡ fresh_bench) (ow
           → report_text (report_of b kit pupil) ≡ cond above (refusal 20) (report_text (report_of fresh_bench kit_bytes pupil))
       go true is = absurd (omega (arith, is, accepted))
       go false is = text
+
+-- The room that the program lends for the records.
+abbrev pub records_room : List ℕ
+records_room = replicate report_room 0
+
+pub records_room_long : length records_room ≡ report_room
+records_room_long = length-replicate {A = ℕ} report_room 0
 
 -- The code that is told of an answer is the one that it has.
 pub coded : (b : Bench) (answer : Result Ran RunRefusal) → answer_code begun_code answer ≡ (ran_of b answer).code

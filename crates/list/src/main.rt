@@ -13,24 +13,6 @@ use listing::Numbered;
 // A list of the longest and one byte more, so that a longer list is seen to be one.
 const INPUT: usize = walk::LONGEST + 1;
 
-fn input_room() -> [u8; INPUT]
-    ensures { 4097 ≡ length result }
-{
-    [0; INPUT]
-}
-
-fn report_room() -> [u8; report::ROOM]
-    ensures { report_room ≡ length result }
-{
-    [0; report::ROOM]
-}
-
-fn text_room() -> [u8; listing::TEXT]
-    ensures { text_room report_room ≡ length result }
-{
-    [0; listing::TEXT]
-}
-
 // Puts what is to be printed for a pupil's list at the front of a text, and says how many bytes that is.
 fn put_printed(text: &mut [u8], pupil: &[u8]) -> usize
     requires { text_room report_room ≤ length text.old }
@@ -38,7 +20,7 @@ fn put_printed(text: &mut [u8], pupil: &[u8]) -> usize
     ensures text_after { text.new ≡ printed pupil.now ++ drop (length (printed pupil.now)) text.old }
 {
     let kit = listing::kit_list();
-    let mut records = report_room();
+    let mut records = [0; report::ROOM];
     let bench = Bench::fresh();
     let ran = bench.run(&kit, pupil, &mut records);
     let code = bench::code_of(&ran);
@@ -52,11 +34,12 @@ fn put_printed(text: &mut [u8], pupil: &[u8]) -> usize
 }
 
 fn main(rt: HostRuntime) {
-    let mut pupil = input_room();
-    let Some(read) = input::read_whole("list", &mut rt.stdin(), &mut rt.stderr(), &mut pupil) else {
+    let mut input = [0; INPUT];
+    let Some(pupil) = input::read_whole("list", &mut rt.stdin(), &mut rt.stderr(), &mut input)
+    else {
         return;
     };
-    let mut text = text_room();
-    let put = put_printed(&mut text, read);
+    let mut text = [0; listing::TEXT];
+    let put = put_printed(&mut text, pupil);
     input::write_whole("list", &mut rt.stdout(), &mut rt.stderr(), &text[..put]);
 }

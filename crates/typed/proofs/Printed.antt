@@ -5,7 +5,7 @@ use mathlib.Core.Path.{◌≡◌, refl, sym, ap, ◌∙◌}
 use mathlib.Core.List.{List, [], ◌∷◌, append-nil}
 use mathlib.Core.Bool.{Bool, true, false, not, ◌||◌, true≢false}
 use native.Mathlib.Omega.{arith}
-use lib.ListN.{length, get_or, take, drop}
+use lib.ListN.{length, get_or, take, drop, replicate, length-replicate}
 use lib.Seq.{take_at, drop-length}
 use lib.Dec.{eqb, ltb}
 use borrow.Author.Tests.{eq-eqb, ne_eqb}
@@ -82,6 +82,13 @@ module _ (b : Bench) (kit typed room : List ℕ) (fresh : b ≡ fresh_bench) (ow
   pub prints_report : (typed_found b kit typed room).told.code ≡ 0 → report_text (typed_report b kit typed) ≡ printed typed
   unfolding printed
   prints_report accepted = rw (eq-eqb (found typed).told.code 0 (sym (ap (λ f. f.told.code) same_found) ∙ accepted)) text
+
+-- The room that the program lends for the records.
+abbrev pub records_room : List ℕ
+records_room = replicate report_room 0
+
+pub records_room_long : length records_room ≡ report_room
+records_room_long = length-replicate {A = ℕ} report_room 0
 
 -- What is told of an answer is the finding that it has.
 pub found_in : (b : Bench) (answer : Result Ran TypedRefusal) → ran_finding answer ≡ (typed_ran_of b answer).found

@@ -13,24 +13,6 @@ use listing::Numbered;
 // A text of the longest and one byte more, so that a longer text is seen to be one.
 const INPUT: usize = text::LONGEST + 1;
 
-fn input_room() -> [u8; INPUT]
-    ensures { 32769 ≡ length result }
-{
-    [0; INPUT]
-}
-
-fn report_room() -> [u8; report::ROOM]
-    ensures { report_room ≡ length result }
-{
-    [0; report::ROOM]
-}
-
-fn text_room() -> [u8; listing::TEXT]
-    ensures { text_room report_room ≡ length result }
-{
-    [0; listing::TEXT]
-}
-
 // Puts what is to be printed for a typed list at the front of a room, and says how many bytes that is.
 fn put_printed(room: &mut [u8], typed: &[u8]) -> usize
     requires { text_room report_room ≤ length room.old }
@@ -38,7 +20,7 @@ fn put_printed(room: &mut [u8], typed: &[u8]) -> usize
     ensures room_after { room.new ≡ printed typed.now ++ drop (length (printed typed.now)) room.old }
 {
     let kit = listing::kit_list();
-    let mut records = report_room();
+    let mut records = [0; report::ROOM];
     let bench = Bench::fresh();
     let ran = bench.run_typed(&kit, typed, &mut records);
     let found = bench::finding_of(&ran);
@@ -52,12 +34,12 @@ fn put_printed(room: &mut [u8], typed: &[u8]) -> usize
 }
 
 fn main(rt: HostRuntime) {
-    let mut typed = input_room();
-    let Some(read) = input::read_whole("typed", &mut rt.stdin(), &mut rt.stderr(), &mut typed)
+    let mut input = [0; INPUT];
+    let Some(typed) = input::read_whole("typed", &mut rt.stdin(), &mut rt.stderr(), &mut input)
     else {
         return;
     };
-    let mut room = text_room();
-    let put = put_printed(&mut room, read);
+    let mut room = [0; listing::TEXT];
+    let put = put_printed(&mut room, typed);
     input::write_whole("typed", &mut rt.stdout(), &mut rt.stderr(), &room[..put]);
 }
