@@ -1,4 +1,5 @@
 //! What the programs say: the kit's own list; a report as text, that is its header and a line for each record; and the line of a refusal.
+//! Rules: "The list program", "The programs of typed lists".
 #![tactic(auto)]
 
 ghost use Rattle.std.specs.Prelude.{◌+◌, ◌/◌, ◌≤◌, ◌<◌, ◌≡◌, length, leb};
@@ -12,7 +13,7 @@ ghost use Rattle.listing.specs.Answer.{answer_of, answer_for};
 mod refusals;
 
 pub use refusals::{Numbered, Output, put_outcome, put_refusal};
-use words::NoRoom;
+use words::{NoRoom, Writer};
 
 // The bytes of the header, and of the longest line.
 const HEADER: usize = 21;
@@ -36,7 +37,7 @@ pub struct Fields {
     value: u32,
 }
 
-/// The kit's own list: power on; region 0 0; algorithm 0; auto flush 1.
+/// The kit's own list: power on; region 0 0; algorithm 0; auto flush 1. Rules: "The list program".
 pub fn kit_list() -> [u8; 48]
     ensures { result ≡ kit_bytes }
 {
@@ -59,15 +60,15 @@ pub fn kit_list() -> [u8; 48]
     list
 }
 
-// Puts a number and a last byte behind it, from a place on, and says which place comes next.
-fn put_field(room: &mut [u8], at: usize, value: u32, last: u8) -> usize
-    requires { at + length (ended value last) ≤ length room.old }
-    ensures value { result ≡ at + length (ended value last) }
-    ensures room_after { room.new ≡ sets room.old at (ended value last) }
+// Puts a number and a last byte behind it at the place that comes next.
+fn put_field(line: &mut Writer, value: u32, last: u8)
+    requires { line.old.at + length (ended value last) ≤ length line.old.room.now }
+    ensures value { line.new.at ≡ line.old.at + length (ended value last) }
+    ensures room_after { line.new.room.now ≡ sets line.old.room.now line.old.at (ended value last) }
+    ensures same_room { line.new.room.ghost_name ≡ line.old.room.ghost_name }
 {
-    let next = words::put_decimal(room, at, value);
-    room[next] = last;
-    next + 1
+    line.number(value);
+    line.text(&[last]);
 }
 
 // How many bytes a sender's name has, with the blank behind it.
@@ -81,16 +82,17 @@ fn name_length(sender: u8) -> usize
     }
 }
 
-// Puts a sender's name and a blank behind it, from a place on, and says which place comes next.
-fn put_name(room: &mut [u8], at: usize, sender: u8) -> usize
-    requires { at + length (name_of sender) ≤ length room.old }
-    ensures value { result ≡ at + length (name_of sender) }
-    ensures room_after { room.new ≡ sets room.old at (name_of sender) }
+// Puts a sender's name and a blank behind it at the place that comes next.
+fn put_name(line: &mut Writer, sender: u8)
+    requires { line.old.at + length (name_of sender) ≤ length line.old.room.now }
+    ensures value { line.new.at ≡ line.old.at + length (name_of sender) }
+    ensures room_after { line.new.room.now ≡ sets line.old.room.now line.old.at (name_of sender) }
+    ensures same_room { line.new.room.ghost_name ≡ line.old.room.ghost_name }
 {
     match sender {
-        walk::KIT => words::put_at(room, at, b"kit "),
-        walk::PUPIL => words::put_at(room, at, b"pupil "),
-        _ => put_field(room, at, sender as u32, BLANK),
+        walk::KIT => line.text(b"kit "),
+        walk::PUPIL => line.text(b"pupil "),
+        _ => put_field(line, sender as u32, BLANK),
     }
 }
 
@@ -127,11 +129,13 @@ fn put_line(room: &mut [u8], at: usize, fields: Fields) -> usize
     ensures value { result ≡ at + length (line_of fields) }
     ensures room_after { room.new ≡ sets room.old at (line_of fields) }
 {
-    let at = put_name(room, at, fields.sender);
-    let at = put_field(room, at, fields.number, BLANK);
-    let at = put_field(room, at, fields.code, BLANK);
-    let at = put_field(room, at, fields.par, BLANK);
-    put_field(room, at, fields.value, LINE_FEED)
+    let mut line = Writer { room, at };
+    put_name(&mut line, fields.sender);
+    put_field(&mut line, fields.number, BLANK);
+    put_field(&mut line, fields.code, BLANK);
+    put_field(&mut line, fields.par, BLANK);
+    put_field(&mut line, fields.value, LINE_FEED);
+    line.at
 }
 
 // Is there room for the text of a report in so many bytes? They are counted down line by line, since the sum might be too large a number.
@@ -170,7 +174,7 @@ fn put_lines(room: &mut [u8], from: usize, records: &[u8]) -> usize
 ///
 /// # Errors
 ///
-/// `NoRoom` (24) where the text has too little room, which then stays as it was.
+/// `NoRoom` (24) where the text has too little room, which then stays as it was. Rules: "The list program".
 pub fn put_report(room: &mut [u8], records: &[u8]) -> Result<usize, NoRoom>
     ensures result_value { answer_of result ≡ answer_for (report_text records.now) room.old }
     ensures room_after { room.new ≡ written (report_text records.now) room.old }

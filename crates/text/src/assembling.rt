@@ -1,4 +1,5 @@
 //! The assembler, in one pass: all lines are judged and their bytes gathered, and only then is the room touched.
+//! Rules: "Typed lists".
 ghost use Rattle.std.specs.Prelude.{◌≡◌, length};
 ghost use Rattle.words.specs.Text.{stored_at};
 ghost use Rattle.wire.specs.Write.{command_bytes, list_bytes};
@@ -57,7 +58,7 @@ fn gather(text: &[u8], buffer: &mut [u8]) -> Result<usize, Refusal>
 ///
 /// # Errors
 ///
-/// 20 for a text above 32,768 bytes, the first bad line, then 20 for a list above 4,096 bytes.
+/// 20 for a text above 32,768 bytes, the first bad line's code with its number, then 20 for a list above 4,096 bytes, of no line. Rules: "Typed lists".
 pub fn judge_text(text: &[u8]) -> Result<usize, Refusal>
     ensures { translated_of result ≡ judged_text text.now }
 {
@@ -76,7 +77,7 @@ fn list_buffer() -> [u8; walk::LONGEST]
 ///
 /// # Errors
 ///
-/// Those of `judge_text`, then 24 for too little room, of no line. The room is then as it was.
+/// Those of `judge_text`, then 24 for too little room, of no line. The room is then as it was. Rules: "Typed lists".
 pub fn assemble(text: &[u8], room: &mut [u8]) -> Result<usize, Refusal>
     ensures result_value { translated_of result ≡ assembled_as text.now room.old }
     ensures room_after { room.new ≡ room_after text.now room.old }

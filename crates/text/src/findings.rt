@@ -7,13 +7,18 @@ ghost use Rattle.text.specs.Findings.{told_fault, finding, no_room, translated_o
 use wire::{Tell, Told};
 use words::NoRoom;
 
-/// Why a line is bad, or why a command cannot be listed.
+/// Why a line is bad, or why a command cannot be listed. Rules: "Typed lists".
 #[derive(Clone, Copy, Debug, PartialEq, Eq)]
 pub enum Fault {
+    /// 30: the name is not in the table.
     UnknownName,
+    /// 32: the number of arguments is not the command's.
     WrongCount,
+    /// 31: an argument is not a number, or a goal.
     Malformed,
+    /// 33: text cannot say a goal of the command.
     Unsayable,
+    /// What the wire says of the command: 1 to 10, and 24 for too little room.
     Wire(wire::Refusal),
 }
 
@@ -28,7 +33,9 @@ impl From<wire::Refusal> for Fault {
 /// A code with what was wrong with the number, and the line or the command that it is of: 0 where it is of none.
 #[derive(Clone, Copy, Debug, PartialEq, Eq)]
 pub struct Finding {
+    /// The code, 0 for none, and behind code 8 which number was out of range, its value and its limits.
     pub told: Told,
+    /// The number of the line or command, from 1.
     pub number: u32,
 }
 
@@ -36,7 +43,9 @@ pub struct Finding {
 /// fault of the whole.
 #[derive(Clone, Copy, Debug, PartialEq, Eq)]
 pub enum Refusal {
+    /// 20: the text has more than 32,768 bytes, or the list more than 4,096.
     TooLong,
+    /// The first bad line or command.
     BadLine(u32, Fault),
 }
 

@@ -1,4 +1,4 @@
-//! Goals: from text to quarters and the bits of the single, and back.
+//! Goals: from text to quarters and the bits of the single, and back. Rules: "Goals", "Typed lists".
 ghost use Rattle.std.specs.Prelude.{◌≤◌, ◌≡◌};
 ghost use Rattle.text.specs.Goal.{goal_bits, quarters_in};
 ghost use Rattle.text.specs.Line.{goal_of};

@@ -1,4 +1,5 @@
 //! What a pupil types: lines with names, numbers and goals; whole texts to raw lists and back; the line that a record's number names.
+//! Rules: "Typed lists".
 #![tactic(auto)]
 
 mod assembling;

@@ -1,4 +1,4 @@
-//! One line: codes 30, 32, 31, then 8 to 10.
+//! One line: codes 30, 32, 31, then 8 to 10. Rules: "Typed lists".
 ghost use Rattle.std.specs.Prelude.{◌≡◌};
 ghost use Rattle.text.specs.Line.{first_of, second_of, line_of, answer_command, answer_line};
 ghost use Rattle.text.specs.Split.{space};
@@ -93,7 +93,7 @@ fn typed_line(flag: bool, body: &[u8]) -> Result<Command, Fault>
 ///
 /// # Errors
 ///
-/// 30, 32, 31, 8, then 9 or 10, the first that is due in that order.
+/// 30, 32, 31, 8, then 9 or 10, the first that is due in that order. Rules: "Typed lists".
 pub fn line_of(line: &[u8]) -> Result<Option<Command>, Fault>
     ensures { answer_line result ≡ line_of line.now }
 {

@@ -1,4 +1,4 @@
-//! The names of the table.
+//! The names of the table. Rules: "Typed lists".
 ghost use Rattle.std.specs.Prelude.{◌≡◌};
 ghost use Rattle.wire.specs.Table.{name_of};
 ghost use Rattle.text.specs.Names.{form_named};

@@ -1,4 +1,4 @@
-//! Numbers as digits: a whole number, and a goal in quarters.
+//! Numbers as digits: a whole number, and a goal in quarters. Rules: "Typed lists".
 ghost use Rattle.std.specs.Prelude.{◌≡◌};
 ghost use Rattle.text.specs.Number.{whole_of, fraction_of, quarters_of};
 ghost use Rattle.text.specs.Steps.{Counted};

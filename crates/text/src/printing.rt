@@ -1,4 +1,5 @@
 //! The lister: a raw list command by command, each as a line of text in a buffer; only when all of them can be said is the room touched.
+//! Rules: "Typed lists".
 ghost use Rattle.std.specs.Prelude.{◌+◌, ◌≤◌, ◌≡◌, ◌∷◌, length};
 ghost use Rattle.std.proofs.lemmas.List.Edits.{sets};
 ghost use Rattle.words.specs.Text.{decimal, place_after, stored_at};
@@ -161,6 +162,7 @@ fn text_buffer() -> [u8; BUFFER]
 /// # Errors
 ///
 /// 20 for a list above 4,096 bytes, the first bad command's first of 1 to 10, then 33, and 24 for too little room, of no command. The room is then as it was.
+/// Rules: "Typed lists".
 pub fn list_text(raw: &[u8], room: &mut [u8]) -> Result<usize, Refusal>
     ensures result_value { translated_of result ≡ listed_as raw.now room.old }
     ensures room_after { room.new ≡ listed_room raw.now room.old }

@@ -8,7 +8,8 @@ use super::split::{LINE_FEED, run_of};
 /// The longest text that is taken, in bytes.
 pub const LONGEST: usize = 32768;
 
-/// The line with this number, from 1, without its line feed; the empty part at the text's start where there is no such line.
+/// The line with this number, from 1, without its line feed; the empty part at the text's start where there is no such line, or
+/// the text has more than `LONGEST` bytes. Rules: "Typed lists".
 pub fn line_shown<'a>(text: &'a [u8], number: u32) -> &'a [u8]
     ensures result_value { result.now ≡ line_shown text.now number }
     ensures placed { Placed text.entry result (line_start text.now number) }

@@ -5,6 +5,8 @@ use mathlib.Core.List.{List, ◌++◌}
 use native.Mathlib.Omega.{arith}
 use lib.ListN.{length, length-append}
 use lib.Seq.{sets}
+use mathlib.Core.Path.{◌∙◌}
+use borrow.Author.Rules.{rules}
 use Rattle.words.proofs.Stores.{Laid, laid_fits, laid_more}
 use Rattle.listing.specs.declared.Fields.{Fields}
 use Rattle.listing.specs.Text.{name_of, ended, blank, line_feed, line_of}
@@ -81,54 +83,56 @@ module _ (f : Fields) (room₀ : List ℕ) (from : ℕ) (fits : from + length (l
           unfolding line_of
           line_laid {room₅} {at₅} p₅ = laid_more four_laid (ended f.value line_feed) room₅ at₅ p₅.0 p₅.1
 
-pub put_name-at-requires : goal.put_name-at-requires
-put_name-at-requires c = name_fits c.args.fields _ _ c.requires
-
-pub put_field-at-requires : goal.put_field-at-requires
-put_field-at-requires c =
-    let name = c.put_name-at.ensures in
-    number_fits c.args.fields _ _ c.requires (name.value, name.room_after)
-
-pub put_field-at-requires-2 : goal.put_field-at-requires-2
-put_field-at-requires-2 c =
-    let name = c.put_name-at.ensures in
-    let number = c.put_field-at.ensures in
-    code_fits c.args.fields _ _ c.requires (name.value, name.room_after) (number.value, number.room_after)
-
-pub put_field-at-requires-3 : goal.put_field-at-requires-3
-put_field-at-requires-3 c =
-    let name = c.put_name-at.ensures in
-    let number = c.put_field-at.ensures in
-    let code = c.put_field-at-2.ensures in
-    par_fits c.args.fields _ _ c.requires (name.value, name.room_after) (number.value, number.room_after) (code.value, code.room_after)
+pub put_name-requires : goal.put_name-requires
+put_name-requires c = name_fits c.args.fields _ _ c.requires
 
 pub put_field-requires : goal.put_field-requires
 put_field-requires c =
-    let name = c.put_name-at.ensures in
-    let number = c.put_field-at.ensures in
-    let code = c.put_field-at-2.ensures in
-    let par = c.put_field-at-3.ensures in
+    let name = c.put_name.ensures in
+    number_fits c.args.fields _ _ c.requires (name.value, name.room_after)
+
+pub put_field-requires-2 : goal.put_field-requires-2
+put_field-requires-2 c =
+    let name = c.put_name.ensures in
+    let number = c.put_field.ensures in
+    code_fits c.args.fields _ _ c.requires (name.value, name.room_after) (number.value, number.room_after)
+
+pub put_field-requires-3 : goal.put_field-requires-3
+put_field-requires-3 c =
+    let name = c.put_name.ensures in
+    let number = c.put_field.ensures in
+    let code = c.put_field-2.ensures in
+    par_fits c.args.fields _ _ c.requires (name.value, name.room_after) (number.value, number.room_after) (code.value, code.room_after)
+
+pub put_field-requires-4 : goal.put_field-requires-4
+put_field-requires-4 c =
+    let name = c.put_name.ensures in
+    let number = c.put_field.ensures in
+    let code = c.put_field-2.ensures in
+    let par = c.put_field-3.ensures in
     value_fits c.args.fields _ _ c.requires (name.value, name.room_after) (number.value, number.room_after) (code.value, code.room_after)
     (par.value, par.room_after)
 
 pub returns-clause-value : goal.returns-clause-value
 returns-clause-value c =
-    let name = c.put_name-at.ensures in
-    let number = c.put_field-at.ensures in
-    let code = c.put_field-at-2.ensures in
-    let par = c.put_field-at-3.ensures in
-    let value = c.put_field.ensures in
+    let name = c.put_name.ensures in
+    let number = c.put_field.ensures in
+    let code = c.put_field-2.ensures in
+    let par = c.put_field-3.ensures in
+    let value = c.put_field-4.ensures in
     let all = line_laid c.args.fields _ _ c.requires (name.value, name.room_after) (number.value, number.room_after) (code.value, code.room_after)
     (par.value, par.room_after) (value.value, value.room_after) in
     all.place
 
 pub returns-clause-room_after : goal.returns-clause-room_after
 returns-clause-room_after c =
-    let name = c.put_name-at.ensures in
-    let number = c.put_field-at.ensures in
-    let code = c.put_field-at-2.ensures in
-    let par = c.put_field-at-3.ensures in
-    let value = c.put_field.ensures in
+    let name = c.put_name.ensures in
+    let number = c.put_field.ensures in
+    let code = c.put_field-2.ensures in
+    let par = c.put_field-3.ensures in
+    let value = c.put_field-4.ensures in
     let all = line_laid c.args.fields _ _ c.requires (name.value, name.room_after) (number.value, number.room_after) (code.value, code.room_after)
     (par.value, par.room_after) (value.value, value.room_after) in
-    all.stored
+    let stored = all.stored in
+    let names = value.same_room ∙ par.same_room ∙ code.same_room ∙ number.same_room ∙ name.same_room in
+    search rules
