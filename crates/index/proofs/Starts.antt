@@ -11,7 +11,6 @@ use borrow.Rule.Slice.PartMut.{put_mid}
 use Rattle.wire.specs.Read.{span_of}
 use Rattle.walk.specs.Walk.{start_after, rests}
 use Rattle.walk.proofs.Rests.{rests_none, rests_more, rests_few, rest_at}
-use Rattle.walk.proofs.Turns.{CommandAt}
 use Rattle.index.specs.Index.{starts_from}
 use Rattle.index.specs.Steps.{Gathered}
 
@@ -26,10 +25,6 @@ module _ (s : List ℕ) (at : ℕ) where
       let left = length-drop at s in
       let first : length s - length (drop at s) ≡ at = omega arith in
       rw (rests_more (drop at s) (omega arith), first, drop-drop)
-
-  -- The same of a command that was found there, of n bytes.
-  pub starts_next : (n : ℕ) → CommandAt s at n → starts_from s at ≡ at ∷ starts_from s (at + n)
-  starts_next n here = starts_more (omega (arith, here.ends, here.moves)) ∙ ap (λ k. at ∷ starts_from s (at + k)) (sym here.own)
 
   -- As many begin as the walk finds, at most one for each eight bytes that are left.
   pub length_starts : length (starts_from s at) ≡ length (rests (drop at s))

@@ -3,10 +3,9 @@
 #![tactic(auto)]
 
 ghost use Rattle.std.specs.Prelude.{◌+◌, ◌-◌, ◌≤◌, ◌≡◌, length};
-ghost use Rattle.std.proofs.Common.{arith};
+ghost use Rattle.std.proofs.Common.{rules};
 ghost use Rattle.std.proofs.lemmas.List.Edits.{sets};
 ghost use Rattle.walk.specs.Shown.{Placed};
-ghost use Rattle.index.specs.declared.Refusal.TheVariants.{TooLong, BadOffsets, NoRoom};
 ghost use Rattle.index.specs.Index.{last_of};
 ghost use Rattle.index.specs.Answers.{unfit, refusal_code, answer_of, built_as, room_after};
 ghost use Rattle.index.specs.Found.{place_by, found_of, found_at};
@@ -32,7 +31,7 @@ pub enum Refusal {
 impl Code for Refusal {
     ghost code = { refusal_code };
 
-    ghost refuses = { elim [ TooLong ↦ Prim.omega arith | BadOffsets ↦ Prim.omega arith | NoRoom ↦ Prim.omega arith ] };
+    ghost refuses = { Prim.search rules };
 
     fn code(&self) -> u8 {
         match self {
@@ -98,7 +97,7 @@ fn kept_of(old: &[u16]) -> usize
     old.len().saturating_sub(1)
 }
 
-// The last offset, from where the list is walked; 0 where there is none.
+// The last offset, from where the list is walked. Where there is none that is 0, as the walk begins at the front then, so no `Option`.
 fn last_of(old: &[u16]) -> usize
     ensures { result ≡ last_of old.now }
 {
@@ -134,7 +133,7 @@ pub fn build(list: &[u8], old: &[u16], room: &mut [u16]) -> Result<usize, Refusa
     Ok(count)
 }
 
-// Where the command of a number begins by an index; the list's length where there is none.
+// Where the command of a number begins by an index; the list's length where there is none, and no `Option`, since from there on there are no bytes.
 fn place_of(list: &[u8], offsets: &[u16], number: u32) -> usize
     ensures { result ≡ place_by list.now offsets.now number }
 {
@@ -147,7 +146,8 @@ fn place_of(list: &[u8], offsets: &[u16], number: u32) -> usize
     }
 }
 
-/// The bytes of the command of a number, from 1: a part of the list, empty where the offsets have no such command.
+/// The bytes of the command of a number, from 1: a part of the list, empty where the offsets have no such command or the list has more than `walk::LONGEST`
+/// bytes.
 pub fn look_up<'a, 'b>(list: &'a [u8], offsets: &'b [u16], number: u32) -> &'a [u8]
     ensures result_value { result.now ≡ found_of list.now offsets.now number }
     ensures placed { Placed list.entry result (found_at list.now offsets.now number) }

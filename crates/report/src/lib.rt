@@ -29,7 +29,8 @@ pub const RECORDS: usize = 1024;
 /// The bytes of room that so many records need.
 pub const ROOM: usize = RECORDS * RECORD;
 
-/// The number of the last record, and number and code of the last whose code is not 0; 0 where there is none.
+/// The number of the last record, and number and code of the last whose code is not 0; 0 where there is none. (No `Option`: the housekeeping frame has these
+/// numbers, and zeros there.)
 #[derive(Clone, Copy, Debug, PartialEq, Eq, Default)]
 pub struct Latest {
     pub received: u32,
@@ -94,7 +95,8 @@ fn asked_of(report: &[u8], count: u32) -> u32
     }
 }
 
-// The last of so many records whose code is not 0, looked for from the last one back. A loop, since for `find` over the same numbers no proof was found.
+// The last of so many records whose code is not 0, looked for from the last one back; 0 where there is none, of which `number_in` and `code_in` say 0. A loop,
+// since for `find` over the same numbers no proof was found.
 fn last_failed(report: &[u8], count: u32) -> u32
     ensures { result ≡ last_failed report.now count }
 {
@@ -119,7 +121,7 @@ pub fn latest_of(report: &[u8], count: u32) -> Latest
 }
 
 impl Latest {
-    /// Before the first run there is neither.
+    /// Before the first run there is no record: three zeros.
     pub fn none() -> Latest
         ensures { result ≡ no_latest }
     {

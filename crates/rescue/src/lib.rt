@@ -3,10 +3,9 @@
 #![tactic(auto)]
 
 ghost use Rattle.std.specs.Prelude.{◌≤◌, ◌≡◌, length};
-ghost use Rattle.std.proofs.Common.{arith};
+ghost use Rattle.std.proofs.Common.{rules};
 ghost use Rattle.words.specs.Text.{place_after, stored_at};
 ghost use Rattle.wire.specs.Judge.{told_of};
-ghost use Rattle.rescue.specs.declared.Refusal.TheVariants.{TooLong, NoRoom};
 ghost use Rattle.rescue.specs.Pieces.{passes, passing, stretch_to, table_of};
 ghost use Rattle.rescue.specs.Answers.{refusal_code, answer_of, table_size, rescued_as, room_after, table_after};
 ghost use Rattle.rescue.specs.Steps.{Gathered};
@@ -53,7 +52,7 @@ pub enum Refusal {
 impl Code for Refusal {
     ghost code = { refusal_code };
 
-    ghost refuses = { elim [ TooLong ↦ Prim.omega arith | NoRoom ↦ Prim.omega arith ] };
+    ghost refuses = { Prim.search rules };
 
     fn code(&self) -> u8 {
         match self {
@@ -115,7 +114,7 @@ fn put_stretch(table: &mut [u8], pos: usize, end: usize, run: usize) -> usize
 }
 
 // Puts the commands that pass at the front of one buffer, and the stretches between them at the front of another. Each turn reads once at most: it keeps
-// a command, or skips a byte.
+// a command, or skips a byte. (`while`: a turn goes on by one byte or by a whole command, and no iterator steps so.)
 fn gather(list: &[u8], kept: &mut [u8], table: &mut [u8]) -> Sums
     requires list_len_bound { length list.now ≤ 4096 }
     requires in_bounds { 4096 ≤ length kept.old }

@@ -4,7 +4,6 @@ use mathlib.Core.Path.{◌≡◌, refl, sym, ap, ◌∙◌}
 use mathlib.Core.List.{List, [], ◌∷◌}
 use mathlib.Core.Bool.{Bool, true, false}
 use native.Mathlib.Omega.{arith}
-use native.Mathlib.Numerals.{add-one}
 use lib.ListN.{length, get_or, take, drop, length-drop, drop_of_length-le}
 use lib.Seq.{take_all, take-nil}
 use lib.Dec.{ltb, eqb}
@@ -49,11 +48,6 @@ command_at s at n more span =
       ends = omega (arith, span_within (drop at s));
       moves = omega (arith, span_some (drop at s) (omega arith));
     }
-
--- The next command begins behind it.
-pub next_start : (s : List ℕ) (at n passed : ℕ) → CommandAt s at n → at ≡ start_after s passed → at + n ≡ start_after s (passed + 1)
-unfolding start_after
-next_start s at n passed here is = rw (here.own, add-one, is)
 
 -- A walk by what is left: a list with no byte has no command.
 pub ended : (s : List ℕ) (empty : Bool) → empty ≡ eqb (length s) 0 → empty ≡ true → rests s ≡ []

@@ -10,9 +10,10 @@ ghost use Rattle.walk.specs.Shown.{start_of, bytes_at, command_of, shown_of, ask
 /// The longest list that is taken, in bytes.
 pub const LONGEST: usize = 4096;
 
-/// The sender whose list runs first, and the other.
+/// The sender whose list runs first. (A byte and no enum: it is a record's first, and `shown` is asked of any.)
 pub const KIT: u8 = 1;
 
+/// The other sender.
 pub const PUPIL: u8 = 2;
 
 /// The commands of a list in turn, each as all that is left of the list from it on. A command that codes 1, 2 or 3 refuse ends the list.
@@ -47,7 +48,7 @@ impl<'a> Iterator for Commands<'a> {
     }
 }
 
-// Where command `number`, from 1, begins; the list's length where it has no such command.
+// Where command `number`, from 1, begins; the list's length where it has no such command, and no `Option`, since from there on there are no bytes.
 fn start_of(s: &[u8], number: u32) -> usize
     ensures { result ≡ start_of s.now number }
 {
@@ -60,7 +61,8 @@ fn start_of(s: &[u8], number: u32) -> usize
     }
 }
 
-// The number to look up: 0, which no command has, where either list is too long or the sender is neither of the two.
+// The number to look up: 0, which no command has, where either list is too long or the sender is neither of the two. No `Option`, since a caller may ask for
+// command 0 too, and gets the same.
 fn number_asked(kit: &[u8], pupil: &[u8], sender: u8, number: u32) -> u32
     ensures { result ≡ asked_of kit.now pupil.now sender number }
 {

@@ -21,6 +21,8 @@ fn head_of(opcode: u16, flag: bool, words: u16) -> u32
     }
 }
 
+// One writer to each number of words: each knows its words and their sum. One over a slice would write the words first, and leave a room that is too short
+// for the sum half written.
 fn put_bare(room: &mut [u8], head: u32) -> Result<(), NoRoom>
     ensures value { is_ok result ≡ has_room (closed (head ∷ [])) room.old }
     ensures room_after { room.new ≡ written (closed (head ∷ [])) room.old }

@@ -41,7 +41,7 @@ impl From<NoRoom> for Refusal {
     }
 }
 
-/// A code, and what was wrong with the number where it is 8; code 0 is acceptance.
+/// A code, and what was wrong with the number where it is 8; code 0 is acceptance. (No `Result`, and zeros where no number was wrong: so a record says it.)
 #[derive(Clone, Copy, Debug, PartialEq, Eq)]
 pub struct Told {
     pub code: u8,

@@ -100,6 +100,7 @@ pub fn parts_of(kind: Kind) -> Parts
     }
 }
 
+// Two cuts, since an `as` may lose no bits: the remainder is taken first, by a number that the width fixes.
 fn cut8(x: u32) -> u8
     ensures { result ≡ x % 256 }
 {

@@ -1,5 +1,6 @@
 //! One command: the table of commands, the decoded form, judging, reading and writing.
-//! A refusal of any of these is a `Refusal`, and `told_of` gives its code and, for code 8, what was wrong with the number. Rules: "A command on the wire".
+//! A refusal of any of these is a `Refusal`, and its `told` gives its code and, for code 8, what was wrong with the number; `told_of` gives the same of an
+//! answer. Rules: "A command on the wire".
 #![tactic(auto)]
 
 mod decoding;
