@@ -1,20 +1,13 @@
-// Asking the bench, which goes on from there: `step` carries out a decoded command, `bytes` the one at the front of some bytes, `second` lets a
-// second pass, each with its code and the status afterwards.
+//! Asking the bench, which goes on from there: `step` carries out a decoded command, `bytes` the one at the front of some bytes, `second` lets a
+//! second pass, each with its code and the status afterwards.
 use super::{say, telling};
-use bench::{Bench, Carried, Verdict};
-use store::Group;
+use bench::{Bench, Code, Group, Rejection, Unsound};
 use wire::Kind;
 
-// The code of a verdict, with what was wrong with the number.
-fn code(verdict: Verdict) {
-    say::told(bench::told_of(verdict));
-}
-
-// `step` and `bytes`: the code, and the status of the bench, which goes on.
-pub fn carried(carried: Carried) -> Bench {
-    let verdict = carried.verdict;
-    let next = carried.bench;
-    code(verdict);
+/// `step` and `bytes`: the code, with what was wrong with the number, and the status of the bench, which goes on.
+pub fn carried(b: Bench, carried: Result<Bench, Rejection>) -> Bench {
+    say::told(bench::told_of(&carried));
+    let next = carried.unwrap_or(b);
     telling::status(b", ", next);
     next
 }
@@ -26,23 +19,12 @@ fn entry(i: usize, kind: Kind, code: u8) {
     }
     say::kind(kind);
     if 0 < code {
-        say::text(b" code ");
-        say::number(code as u64);
+        say::field8(b" code ", code);
     }
 }
 
-fn entries(group: Group, codes: &[u8; 64]) {
-    let words = group.words;
-    let size = store::group_size(group.count);
-    let mut i: usize = 0;
-    while i < size {
-        entry(i, store::handed_at(&words, i), codes[i]);
-        i += 1;
-    }
-}
-
-// What a second handed over: how many entries and which, with their codes, or none.
-pub fn handed(group: Group, codes: &[u8; 64]) {
+/// What a second handed over: how many entries and which, with their codes, or none.
+pub fn handed(group: &Group, codes: &[u8; 64]) {
     let size = store::group_size(group.count);
     if size == 0 {
         say::text(b"none");
@@ -50,24 +32,36 @@ pub fn handed(group: Group, codes: &[u8; 64]) {
     }
     say::number(size as u64);
     say::text(b": ");
-    entries(group, codes);
+    for (i, &code) in codes[..size].iter().enumerate() {
+        entry(i, store::handed_at(&group.words, i), code);
+    }
 }
 
-// What a second answered: the code, and what was handed over.
-pub fn answer(verdict: Verdict, group: Group, codes: &[u8; 64]) {
-    code(verdict);
+/// What a second answered: the code, and what was handed over.
+pub fn passed(group: &Group, codes: &[u8; 64]) {
+    say::told(wire::plain(0));
     say::text(b", ");
     handed(group, codes);
 }
 
-// `second`: the code, what was handed over, and the status of the bench, which goes on.
+/// The same where none passed.
+pub fn not_passed(refused: Unsound) {
+    say::told(wire::plain(refused.code()));
+    say::text(b", none");
+}
+
+/// `second`: the code, what was handed over, and the status of the bench, which goes on.
 pub fn second(b: Bench) -> Bench {
-    let passed = b.second();
-    let verdict = passed.verdict;
-    let group = passed.group;
-    let codes = passed.codes;
-    let next = passed.bench;
-    answer(verdict, group, &codes);
+    let next = match b.second() {
+        Ok(done) => {
+            passed(&done.group, &done.codes);
+            done.bench
+        }
+        Err(refused) => {
+            not_passed(refused);
+            b
+        }
+    };
     telling::status(b", ", next);
     next
 }

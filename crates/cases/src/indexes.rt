@@ -1,8 +1,8 @@
-// Indexes beside lists: `index` builds one or extends the offsets that a line hands in, `grow` extends the index of a list's front to the whole of it;
-// `find` looks a command up through any offsets, and `jump` through indexes of the kit's list and of the pupil's. Lists are made as with `run`.
-// Of a room of offsets the first few places are lent, and all are looked at afterwards.
-use super::{lines, lists, say};
-use index::Indexed;
+//! Indexes beside lists: `index` builds one or extends the offsets that a line hands in, `grow` extends the index of a list's front to the whole of it;
+//! `find` looks a command up through any offsets, and `jump` through indexes of the kit's list and of the pupil's. Lists are made as with `run`.
+//! Of a room of offsets the first few places are lent, and all are looked at afterwards.
+use super::{lines, lists, rooms, say};
+use index::Refusal;
 use script::offsets;
 use script::offsets::{FILL, SIZE};
 
@@ -24,55 +24,40 @@ const JUMP: usize = 8;
 
 // Takes the offsets that begin at a place of the line.
 fn take(room: &mut [u16], s: &[u8], from: usize) {
-    offsets::read(lines::part(s, from, s.len()), room);
+    offsets::read(lines::rest(s, from), room);
 }
 
 // So many offsets at the front of a room; none where it has fewer.
 fn front(room: &[u16], count: usize) -> &[u16] {
-    if count <= room.len() {
-        return &room[0..count];
-    }
-    &room[0..0]
-}
-
-// A sum with one offset more.
-fn plus(sum: u64, offset: u16) -> u64 {
-    std::num::wrapping_add_u64(sum, offset as u64)
+    room.get(..count).unwrap_or(&[])
 }
 
 // The sum of some offsets: it differs where one is wrong that is not printed.
 fn sum(offsets: &[u16]) -> u64 {
-    let mut sum: u64 = 0;
-    let mut i: usize = 0;
-    while i < offsets.len() {
-        sum = plus(sum, offsets[i]);
-        i += 1;
-    }
-    sum
+    offsets
+        .iter()
+        .fold(0, |sum: u64, &offset| sum.wrapping_add(u64::from(offset)))
 }
 
-// The offsets from a place on.
-fn numbers(offsets: &[u16], from: usize) {
-    let mut i = from;
-    while i < offsets.len() {
-        say::field16(b" ", offsets[i]);
-        i += 1;
+fn numbers(offsets: &[u16]) {
+    for &offset in offsets {
+        say::field16(b" ", offset);
     }
 }
 
 // An index: all of a short one; of a long one the sum, and the last offsets.
 fn printed(offsets: &[u16]) {
-    if offsets.len() == 0 {
+    if offsets.is_empty() {
         return;
     }
     if offsets.len() <= OFFSETS {
         say::text(b", offsets");
-        numbers(offsets, 0);
+        numbers(offsets);
         return;
     }
     say::field(b", sum ", sum(offsets));
     say::text(b", last");
-    numbers(offsets, offsets.len() - OFFSETS);
+    numbers(&offsets[offsets.len() - OFFSETS..]);
 }
 
 // Are all places from one on still as they were?
@@ -86,57 +71,36 @@ fn rest(room: &[u16], from: usize) {
 }
 
 // What a builder answered: its code, how many offsets the index has, the index, and what is behind it in the room.
-fn answer(indexed: Indexed, room: &[u16]) {
-    let count = index::count_of(indexed);
-    say::field8(b"code ", index::code_of(indexed));
+fn answer(built: Result<usize, Refusal>, room: &[u16]) {
+    let count = built.unwrap_or(0);
+    say::field8(b"code ", words::code_of(&built));
     say::field(b", count ", count as u64);
     printed(front(room, count));
     rest(room, count);
 }
 
-// Lends the front of a room to the builder.
-fn lent(list: &[u8], old: &[u16], room: &mut [u16], size: usize) -> Indexed {
-    if size <= room.len() {
-        index::build(list, old, &mut room[0..size])
-    } else {
-        index::build(list, old, room)
-    }
-}
-
-// `index`: the size of the room in offsets, how many are handed in, and the size of the list.
+/// `index`: the size of the room in offsets, how many are handed in, and the size of the list.
 pub fn build(s: &[u8]) {
     let mut old = [0u16; ROOM];
     let mut list = [0u8; lists::LIST];
     let mut room = [FILL; ROOM];
-    let size = words::half_at(s, 0) as usize;
     let count = words::half_at(s, 2) as usize;
     take(&mut old, s, INDEX);
     lists::fill(&mut list, s, INDEX + count * SIZE);
     let list = lines::part(&list, 0, words::half_at(s, 4) as usize);
-    let indexed = lent(list, front(&old, count), &mut room, size);
-    answer(indexed, &room);
+    let built = index::build(
+        list,
+        front(&old, count),
+        rooms::lent(&mut room, words::half_at(s, 0)),
+    );
+    answer(built, &room);
 }
 
 // Builds the index of a list in the whole of a room, from the offsets of an earlier one, and says what came of it.
-fn extended(list: &[u8], old: &[u16], room: &mut [u16]) -> Indexed {
-    let indexed = index::build(list, old, room);
-    answer(indexed, room);
-    indexed
-}
-
-// The same offsets?
-fn same(a: &[u16], b: &[u16]) -> bool {
-    let mut i: usize = 0;
-    while i < a.len() {
-        if b.len() <= i {
-            return false;
-        }
-        if a[i] != b[i] {
-            return false;
-        }
-        i += 1;
-    }
-    a.len() == b.len()
+fn extended(list: &[u8], old: &[u16], room: &mut [u16]) -> Result<usize, Refusal> {
+    let built = index::build(list, old, room);
+    answer(built, room);
+    built
 }
 
 // The index of a list's front, the one that it is extended to for the whole list, and whether building anew has the same code and leaves the same room.
@@ -144,19 +108,18 @@ fn grown(early: &[u8], list: &[u8]) {
     let mut old = [FILL; ROOM];
     let mut room = [FILL; ROOM];
     let mut anew = [FILL; ROOM];
-    let none = [0u16; 0];
-    let before = index::count_of(extended(early, &none, &mut old));
+    let before = extended(early, &[], &mut old).unwrap_or(0);
     say::text(b"; ");
-    let code = index::code_of(extended(list, front(&old, before), &mut room));
-    let expected = index::code_of(index::build(list, &none, &mut anew));
-    if code == expected && same(&room, &anew) {
+    let code = words::code_of(&extended(list, front(&old, before), &mut room));
+    let expected = words::code_of(&index::build(list, &[], &mut anew));
+    if code == expected && room == anew {
         say::text(b"; same");
     } else {
         say::text(b"; differs");
     }
 }
 
-// `grow`: the sizes of the list's front and of the whole list.
+/// `grow`: the sizes of the list's front and of the whole list.
 pub fn grow(s: &[u8]) {
     let mut list = [0u8; lists::LIST];
     lists::fill(&mut list, s, GROW);
@@ -166,14 +129,14 @@ pub fn grow(s: &[u8]) {
 
 // The bytes of a command.
 fn command(s: &[u8]) {
-    if s.len() == 0 {
+    if s.is_empty() {
         say::text(b"none");
     } else {
         say::hex(s);
     }
 }
 
-// `find`: a number of 32 bits, how many offsets are handed in, and the size of the list.
+/// `find`: a number of 32 bits, how many offsets are handed in, and the size of the list.
 pub fn find(s: &[u8]) {
     let mut offsets = [0u16; ROOM];
     let mut list = [0u8; lists::LIST];
@@ -186,19 +149,18 @@ pub fn find(s: &[u8]) {
 
 // The command of a number through an index of its list, and whether it has the bytes that are shown.
 fn held(list: &[u8], number: u32, shown: &[u8]) {
-    let none = [0u16; 0];
     let mut room = [FILL; ROOM];
-    let count = index::count_of(index::build(list, &none, &mut room));
+    let count = index::build(list, &[], &mut room).unwrap_or(0);
     let found = index::look_up(list, front(&room, count), number);
     command(found);
-    if lines::same(found, shown) {
+    if found == shown {
         say::text(b" as shown");
     } else {
         say::text(b" not as shown");
     }
 }
 
-// `jump`: a number of 32 bits, and the sizes of the kit's list and of the pupil's.
+/// `jump`: a number of 32 bits, and the sizes of the kit's list and of the pupil's.
 pub fn jump(s: &[u8]) {
     let mut kit = [0u8; lists::LIST];
     let mut pupil = [0u8; lists::LIST];

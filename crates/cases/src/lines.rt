@@ -1,45 +1,29 @@
-// A line of a case, `VERB WHAT IS TRIED: BYTES`: its parts.
+//! A line of a case, `VERB WHAT IS TRIED: BYTES`: its parts.
 
-// Where this byte next stands, from a place on; the end where it does not.
-pub fn find(s: &[u8], from: usize, b: u8) -> usize {
-    let mut i = from;
-    while i < s.len() {
-        if s[i] == b {
-            return i;
-        }
-        i += 1;
-    }
-    s.len()
+/// Where this byte first stands; the end where it does not.
+pub fn find(s: &[u8], b: u8) -> usize {
+    s.iter().position(|&c| c == b).unwrap_or(s.len())
 }
 
-// The part from one place to another; empty where there is no such part.
+/// The part from one place to another; empty where there is no such part.
 pub fn part(s: &[u8], from: usize, to: usize) -> &[u8] {
-    if from <= to {
-        if to <= s.len() {
-            return &s[from..to];
-        }
+    s.get(from..to).unwrap_or(&[])
+}
+
+/// All that stands from a place on.
+pub fn rest(s: &[u8], from: usize) -> &[u8] {
+    part(s, from, s.len())
+}
+
+/// The verb, which stands before the first blank; none where there is no blank.
+pub fn verb(line: &[u8]) -> &[u8] {
+    match line.iter().position(|&c| c == b' ') {
+        Some(end) => part(line, 0, end),
+        None => &[],
     }
-    &s[0..0]
 }
 
-// Does a slice begin with all of another one? Behind its end it counts as zeros.
-pub fn begins(s: &[u8], t: &[u8]) -> bool {
-    let mut i: usize = 0;
-    while i < t.len() {
-        if words::byte_at(s, i) != t[i] {
-            return false;
-        }
-        i += 1;
-    }
-    true
-}
-
-// The same bytes?
-pub fn same(s: &[u8], t: &[u8]) -> bool {
-    s.len() == t.len() && begins(s, t)
-}
-
-// What stands before the colon.
+/// What stands before the colon.
 pub fn label(line: &[u8]) -> &[u8] {
-    part(line, 0, find(line, 0, b':'))
+    part(line, 0, find(line, b':'))
 }

@@ -1,14 +1,14 @@
-// Two lists, the kit's and then the pupil's: the line has their sizes, and last of all their bytes, the pupil's right behind the kit's.
-// A list that is longer than the bytes given for it goes on with FLUSHes, to 4,097 bytes at most; one that is said to be longer than that is empty.
+//! Two lists, the kit's and then the pupil's: the line has their sizes, and last of all their bytes, the pupil's right behind the kit's.
+//! A list that is longer than the bytes given for it goes on with FLUSHes, to 4,097 bytes at most; one that is said to be longer than that is empty.
 use super::{lines, rooms, say, telling};
-use bench::{Begun, Bench, Ran};
+use bench::{Bench, Ran};
 
 // The first word of a FLUSH, and its last.
 const FLUSH: u32 = 0x015a0002;
 
 const FLUSHES: usize = walk::LONGEST / words::WORD;
 
-// The room of a list, one byte more than may be run.
+/// The room of a list, one byte more than may be run.
 pub const LIST: usize = walk::LONGEST + 1;
 
 // The largest room of a report; a line that asks for more gets this one.
@@ -19,48 +19,39 @@ const RUN: usize = 6;
 
 const SHOWN: usize = 9;
 
-// Makes a list of the bytes from a place of the line on, with FLUSHes behind them.
+/// Makes a list of the bytes from a place of the line on, with FLUSHes behind them.
 pub fn fill(list: &mut [u8], s: &[u8], from: usize) {
-    let flushes = [FLUSH; FLUSHES];
-    words::put_words(list, &flushes);
-    rooms::paste(list, 0, lines::part(s, from, s.len()));
+    let _ = words::put_words(list, &[FLUSH; FLUSHES]);
+    rooms::paste(list, 0, lines::rest(s, from));
+}
+
+/// What a run leaves: one that is refused leaves the bench as it came, and no records.
+pub fn left<E: Drop>(b: Bench, ran: Result<Ran, E>) -> Ran {
+    ran.unwrap_or(Ran {
+        bench: b,
+        kit: 0,
+        pupil: 0,
+    })
 }
 
 // The last of so many records, which ends at this place of the room.
 fn last(room: &[u8], count: u32, end: usize) {
     if 0 < count {
-        let from = std::num::wrapping_sub_usize(end, report::RECORD);
         say::text(b", record ");
-        say::hex(lines::part(room, from, end));
+        say::hex(lines::part(room, end.wrapping_sub(report::RECORD), end));
     }
 }
 
 // What a run answered: its code, how many records each sender has and the last of them, and what is behind the records in the room.
-fn answer(begun: Begun, kit: u32, pupil: u32, room: &[u8]) {
+fn answer(code: u8, kit: u32, pupil: u32, room: &[u8]) {
     let middle = kit as usize * report::RECORD;
     let end = middle + pupil as usize * report::RECORD;
-    say::field8(b"code ", bench::code_of(begun));
-    say::field(b", kit ", kit as u64);
-    say::field(b", pupil ", pupil as u64);
+    say::field8(b"code ", code);
+    say::field(b", kit ", u64::from(kit));
+    say::field(b", pupil ", u64::from(pupil));
     last(room, kit, middle);
     last(room, pupil, end);
     rooms::rest(room, end);
-}
-
-// The same, and the bench afterwards.
-fn outcome(ran: Ran, room: &[u8]) -> Bench {
-    let begun = ran.begun;
-    answer(begun, ran.kit, ran.pupil, room);
-    ran.bench
-}
-
-// Runs both lists with the front of a room.
-fn lent(b: Bench, kit: &[u8], pupil: &[u8], room: &mut [u8], size: usize) -> Ran {
-    if size <= room.len() {
-        b.run(kit, pupil, &mut room[0..size])
-    } else {
-        b.run(kit, pupil, room)
-    }
 }
 
 // The run of a line: the sizes of the room, of the kit's list and of the pupil's.
@@ -73,23 +64,26 @@ fn carried(b: Bench, s: &[u8]) -> Bench {
     fill(&mut pupil, s, RUN + size);
     let kit = lines::part(&kit, 0, size);
     let pupil = lines::part(&pupil, 0, words::half_at(s, 4) as usize);
-    let ran = lent(b, kit, pupil, &mut room, words::half_at(s, 0) as usize);
-    outcome(ran, &room)
+    let ran = b.run(kit, pupil, rooms::lent(&mut room, words::half_at(s, 0)));
+    let code = bench::code_of(&ran);
+    let ran = left(b, ran);
+    answer(code, ran.kit, ran.pupil, &room);
+    ran.bench
 }
 
-// `run`: last comes the status of the bench afterwards.
+/// `run`: last comes the status of the bench afterwards.
 pub fn run(b: Bench, s: &[u8]) {
     telling::status(b", ", carried(b, s));
 }
 
-// `runs`: the same with its housekeeping, and the bench goes on from there.
+/// `runs`: the same with its housekeeping, and the bench goes on from there.
 pub fn go_on(b: Bench, s: &[u8]) -> Bench {
     let next = carried(b, s);
     telling::kept(b", ", next);
     next
 }
 
-// `shown`: a sender, a number, and the sizes of the kit's list and of the pupil's.
+/// `shown`: a sender, a number, and the sizes of the kit's list and of the pupil's.
 pub fn shown(s: &[u8]) {
     let mut kit = [0u8; LIST];
     let mut pupil = [0u8; LIST];

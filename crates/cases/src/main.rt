@@ -1,6 +1,6 @@
-// Cases by name: each line of standard input, `VERB WHAT IS TRIED: BYTES`, is tried and printed as `VERB WHAT IS TRIED: ANSWER`.
-// A bench goes from line to line: a few quiet verbs, which print nothing, make the one that the next lines ask.
-// The cases stand in this crate's `stdin`, by theme, and the answers that the rules ask for in its `stdout`; what is printed must equal them.
+//! Cases by name: each line of standard input, `VERB WHAT IS TRIED: BYTES`, is tried and printed as `VERB WHAT IS TRIED: ANSWER`.
+//! A bench goes from line to line: a few quiet verbs, which print nothing, make the one that the next lines ask.
+//! The cases stand in this crate's `stdin`, by theme, and the answers that the rules ask for in its `stdout`; what is printed must equal them.
 #![tactic(auto)]
 
 mod asking;
@@ -33,138 +33,73 @@ const TEXT: usize = 524288;
 
 const BYTES: usize = 40000;
 
-// Verbs of single frames, and of the gas valve.
-fn framed(line: &[u8], s: &[u8]) {
-    if lines::begins(line, b"frame ") {
-        frames::read(s);
-    } else if lines::begins(line, b"values ") {
-        frames::values(s);
-    } else if lines::begins(line, b"put ") {
-        frames::write(s);
-    } else if lines::begins(line, b"tags ") {
-        tags::read(s);
-    } else if lines::begins(line, b"pack ") {
-        tags::write(s);
-    } else if lines::begins(line, b"gas ") {
-        valves::read(s);
-    } else if lines::begins(line, b"valve ") {
-        valves::carry_out(s);
-    } else {
-        say::text(b"no such verb");
+// Verbs of single frames, of the gas valve, and of lists on a card and damaged ones.
+fn moved(verb: &[u8], s: &[u8]) {
+    match verb {
+        b"frame" => frames::read(s),
+        b"values" => frames::values(s),
+        b"put" => frames::write(s),
+        b"tags" => tags::read(s),
+        b"pack" => tags::write(s),
+        b"gas" => valves::read(s),
+        b"valve" => valves::carry_out(s),
+        b"save" => cards::save(s),
+        b"load" => cards::load(s),
+        b"rescue" => rescues::rescue_list(s),
+        _ => say::text(b"no such verb"),
     }
 }
 
-// Verbs of lists on a card and of damaged ones, and else those of frames.
-fn moved(line: &[u8], s: &[u8]) {
-    if lines::begins(line, b"save ") {
-        cards::save(s);
-    } else if lines::begins(line, b"load ") {
-        cards::load(s);
-    } else if lines::begins(line, b"rescue ") {
-        rescues::rescue_list(s);
-    } else {
-        framed(line, s);
+// Verbs of single commands, texts and indexes, and else those above.
+fn single(verb: &[u8], s: &[u8]) {
+    match verb {
+        b"read" => reading::read(s),
+        b"span" => say::number(wire::span(s) as u64),
+        b"again" => reading::again(s),
+        b"judge" => decoded::judge(s),
+        b"write" => decoded::write(s),
+        b"pictures" => decoded::pictures(s),
+        b"assemble" => texts::assemble(s),
+        b"list" => texts::list(s),
+        b"letters" => texts::letters(s),
+        b"line" => texts::line(s),
+        b"index" => indexes::build(s),
+        b"grow" => indexes::grow(s),
+        b"find" => indexes::find(s),
+        b"jump" => indexes::jump(s),
+        _ => moved(verb, s),
     }
 }
 
-// Verbs of indexes, and else those of lists on a card and of damaged ones.
-fn indexed(line: &[u8], s: &[u8]) {
-    if lines::begins(line, b"index ") {
-        indexes::build(s);
-    } else if lines::begins(line, b"grow ") {
-        indexes::grow(s);
-    } else if lines::begins(line, b"find ") {
-        indexes::find(s);
-    } else if lines::begins(line, b"jump ") {
-        indexes::jump(s);
-    } else {
-        moved(line, s);
-    }
-}
-
-// Verbs of texts, and else those of indexes.
-fn translated(line: &[u8], s: &[u8]) {
-    if lines::begins(line, b"assemble ") {
-        texts::assemble(s);
-    } else if lines::begins(line, b"list ") {
-        texts::list(s);
-    } else if lines::begins(line, b"letters ") {
-        texts::letters(s);
-    } else if lines::begins(line, b"line ") {
-        texts::line(s);
-    } else {
-        indexed(line, s);
-    }
-}
-
-// Verbs of single commands, and else those of texts.
-fn single(line: &[u8], s: &[u8]) {
-    if lines::begins(line, b"read ") {
-        reading::read(s);
-    } else if lines::begins(line, b"span ") {
-        say::number(wire::span(s) as u64);
-    } else if lines::begins(line, b"again ") {
-        reading::again(s);
-    } else if lines::begins(line, b"judge ") {
-        decoded::judge(s);
-    } else if lines::begins(line, b"write ") {
-        decoded::write(s);
-    } else if lines::begins(line, b"pictures ") {
-        decoded::pictures(s);
-    } else {
-        translated(line, s);
-    }
-}
-
-// Verbs of four seats around the bench of the lines, and else those of single commands.
-fn shared(b: Bench, line: &[u8], s: &[u8]) {
-    if lines::begins(line, b"queue ") {
-        seated::queue(b, s);
-    } else if lines::begins(line, b"turn ") {
-        seated::turn(b, s);
-    } else if lines::begins(line, b"seats ") {
-        seated::each(b, s);
-    } else {
-        single(line, s);
-    }
-}
-
-// Verbs that leave the bench of the lines as it is.
-fn looked(b: Bench, line: &[u8], s: &[u8]) {
-    if lines::begins(line, b"status ") {
-        telling::status(b"", b);
-    } else if lines::begins(line, b"free ") {
-        telling::free(b"free ", b);
-    } else if lines::begins(line, b"housekeeping ") {
-        telling::kept(b"", b);
-    } else if lines::begins(line, b"state ") {
-        states::state(setting::set(b, s));
-    } else if lines::begins(line, b"run ") {
-        lists::run(b, s);
-    } else if lines::begins(line, b"typed ") {
-        texts::typed(b, s);
-    } else if lines::begins(line, b"shown ") {
-        lists::shown(s);
-    } else {
-        shared(b, line, s);
+// Verbs that leave the bench of the lines as it is, those of four seats around it, and else those above.
+fn looked(b: Bench, verb: &[u8], s: &[u8]) {
+    match verb {
+        b"status" => telling::status(b"", b),
+        b"free" => telling::free(b"free ", b),
+        b"housekeeping" => telling::kept(b"", b),
+        b"state" => states::state(setting::set(b, s)),
+        b"run" => lists::run(b, s),
+        b"typed" => texts::typed(b, s),
+        b"shown" => lists::shown(s),
+        b"queue" => seated::queue(b, s),
+        b"turn" => seated::turn(b, s),
+        b"seats" => seated::each(b, s),
+        _ => single(verb, s),
     }
 }
 
 // Verbs that change it and say what came of it, and else the others that print.
-fn answered(b: Bench, line: &[u8], s: &[u8]) -> Bench {
-    if lines::begins(line, b"step ") {
-        asking::carried(b.carry_out(decoded::command(s)))
-    } else if lines::begins(line, b"bytes ") {
-        asking::carried(b.carry_out_bytes(s))
-    } else if lines::begins(line, b"second ") {
-        asking::second(b)
-    } else if lines::begins(line, b"runs ") {
-        lists::go_on(b, s)
-    } else if lines::begins(line, b"types ") {
-        texts::go_on(b, s)
-    } else {
-        looked(b, line, s);
-        b
+fn answered(b: Bench, verb: &[u8], s: &[u8]) -> Bench {
+    match verb {
+        b"step" => asking::carried(b, b.carry_out(decoded::command(s))),
+        b"bytes" => asking::carried(b, b.carry_out_bytes(s)),
+        b"second" => asking::second(b),
+        b"runs" => lists::go_on(b, s),
+        b"types" => texts::go_on(b, s),
+        _ => {
+            looked(b, verb, s);
+            b
+        }
     }
 }
 
@@ -172,37 +107,26 @@ fn answered(b: Bench, line: &[u8], s: &[u8]) -> Bench {
 fn printed(b: Bench, line: &[u8], s: &[u8]) -> Bench {
     say::text(lines::label(line));
     say::text(b": ");
-    let next = answered(b, line, s);
+    let next = answered(b, lines::verb(line), s);
     say::text(b"\n");
     next
 }
 
 // The quiet verbs, and else those that print.
-fn verb(b: Bench, line: &[u8], s: &[u8]) -> Bench {
-    if lines::begins(line, b"fresh ") {
-        return Bench::fresh();
+fn tried(b: Bench, line: &[u8], s: &[u8]) -> Bench {
+    match lines::verb(line) {
+        b"fresh" => Bench::fresh(),
+        b"do" => making::commands(b, s),
+        b"times" => making::times(b, s),
+        b"pass" => making::pass(b, s),
+        b"set" => setting::set(b, s),
+        _ => printed(b, line, s),
     }
-    if lines::begins(line, b"do ") {
-        return making::commands(b, s);
-    }
-    if lines::begins(line, b"times ") {
-        return making::times(b, s);
-    }
-    if lines::begins(line, b"pass ") {
-        return making::pass(b, s);
-    }
-    if lines::begins(line, b"set ") {
-        return setting::set(b, s);
-    }
-    printed(b, line, s)
 }
 
 // The bench after a line. A blank line or one that begins with `#` is for the reader alone.
 fn case(b: Bench, line: &[u8]) -> Bench {
-    if line.len() == 0 {
-        return b;
-    }
-    if line[0] == b'#' {
+    if matches!(line, [] | [b'#', ..]) {
         return b;
     }
     let mut room = [0u8; BYTES];
@@ -211,23 +135,14 @@ fn case(b: Bench, line: &[u8]) -> Bench {
         say::text(b"too many bytes\n");
         return b;
     }
-    verb(b, line, lines::part(&room, 0, count))
+    tried(b, line, lines::part(&room, 0, count))
 }
 
 // Each line takes the bench that the one before it left, the first a fresh one.
 fn each(text: &[u8]) {
     let mut b = Bench::fresh();
-    let mut at: usize = 0;
-    while at < text.len() {
-        let end = lines::find(text, at, b'\n');
-        b = case(b, lines::part(text, at, end));
-        if end < at {
-            return;
-        }
-        if text.len() <= end {
-            return;
-        }
-        at = end + 1;
+    for line in text.split(|&c| c == b'\n') {
+        b = case(b, line);
     }
 }
 

@@ -1,43 +1,32 @@
-// Quiet verbs: they make the bench of the lines that follow, and print nothing.
-// `do` carries out commands given in bytes, one after another; `times`, with a count in front, does so again and again; `pass` lets seconds pass.
+//! Quiet verbs: they make the bench of the lines that follow, and print nothing.
+//! `do` carries out commands given in bytes, one after another; `times`, with a count in front, does so again and again; `pass` lets seconds pass.
 use super::lines;
 use bench::Bench;
+use walk::Commands;
 
-// `do`: the bench after these commands; one that is refused leaves it as it is.
+/// `do`: the bench after these commands; one that is refused leaves it as it is.
 pub fn commands(b: Bench, s: &[u8]) -> Bench {
     let mut b = b;
-    let mut at: usize = 0;
-    while at < s.len() {
-        let rest = &s[at..];
-        let carried = b.carry_out_bytes(rest);
-        b = carried.bench;
-        at += wire::span(rest);
+    for rest in Commands::new(s) {
+        b = b.carry_out_bytes(rest).unwrap_or(b);
     }
     b
 }
 
-// `times`: the bench after so many turns of these commands.
+/// `times`: the bench after so many turns of these commands.
 pub fn times(b: Bench, s: &[u8]) -> Bench {
-    let count = words::half_at(s, 0);
-    let list = lines::part(s, 2, s.len());
     let mut b = b;
-    let mut k: u16 = 0;
-    while k < count {
-        b = commands(b, list);
-        k += 1;
+    for _ in 0..words::half_at(s, 0) {
+        b = commands(b, lines::rest(s, 2));
     }
     b
 }
 
-// `pass`: the bench after so many seconds.
+/// `pass`: the bench after so many seconds.
 pub fn pass(b: Bench, s: &[u8]) -> Bench {
-    let count = words::half_at(s, 0);
     let mut b = b;
-    let mut k: u16 = 0;
-    while k < count {
-        let passed = b.second();
-        b = passed.bench;
-        k += 1;
+    for _ in 0..words::half_at(s, 0) {
+        b = b.second().map_or(b, |passed| passed.bench);
     }
     b
 }

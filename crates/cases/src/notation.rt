@@ -1,7 +1,9 @@
-// The bytes of a line. Plain: hex with blanks anywhere between the digits; `z` stands for a word of zeros, and `^` for the XOR of the words before it,
-// so that a command can be given its right last word. In quotes: text, where behind a backslash n, r, t and 0 stand for their bytes, x and two hex
-// digits for that byte, and anything else for itself, so also a quote. A number of 16 bits and `*` before a quote: the text in it so often.
-// In angle brackets: numbers of up to eight hex digits with blanks between them, each in groups of seven bits, as a stored list has its numbers.
+//! The bytes of a line. Plain: hex with blanks anywhere between the digits; `z` stands for a word of zeros, and `^` for the XOR of the words before it,
+//! so that a command can be given its right last word. In quotes: text, where behind a backslash n, r, t and 0 stand for their bytes, x and two hex
+//! digits for that byte, and anything else for itself, so also a quote. A number of 16 bits and `*` before a quote: the text in it so often.
+//! In angle brackets: numbers of up to eight hex digits with blanks between them, each in groups of seven bits, as a stored list has its numbers.
+ghost use Rattle.std.specs.Prelude.{◌<◌, IfSome};
+
 use super::{lines, rooms};
 
 // No line has so many bytes; it keeps the product with a number of 16 bits small.
@@ -25,12 +27,19 @@ enum Mode {
 }
 
 // How far the bytes are made: hex digits so far, two to a byte; where the text in quotes began, and how often it is wanted.
-#[derive(Drop)]
+#[derive(Clone, Copy)]
 struct Scan {
     mode: Mode,
     digits: usize,
     start: usize,
     times: u16,
+}
+
+impl Scan {
+    // The same before another kind of character.
+    fn goes_on(self, mode: Mode) -> Scan {
+        Scan { mode, ..self }
+    }
 }
 
 // Before the next text in quotes, behind so many digits.
@@ -43,30 +52,22 @@ fn plainly(digits: usize) -> Scan {
     }
 }
 
-// The value of a hex digit; 16 for anything else.
-fn digit(c: u8) -> u8 {
-    if c < b'0' {
-        return 16;
+// The value of a hex digit.
+fn digit(c: u8) -> Option<u8>
+    ensures { IfSome result (λ d. d < 16) }
+{
+    match c {
+        b'0'..=b'9' => Some(c - b'0'),
+        b'a'..=b'f' => Some(c - b'a' + 10),
+        _ => None,
     }
-    if c <= b'9' {
-        return c - b'0';
-    }
-    if c < b'a' {
-        return 16;
-    }
-    if c <= b'f' {
-        return c - b'a' + 10;
-    }
-    16
 }
 
 // The XOR of the words in front of a place.
 fn sum(room: &[u8], end: usize) -> u32 {
-    let mut sum: u32 = 0;
-    let mut i: usize = 0;
-    while i < end / 4 {
-        sum = sum ^ words::word_at(room, i * 4);
-        i += 1;
+    let mut sum = 0;
+    for i in 0..end / words::WORD {
+        sum ^= words::word_at(room, i * words::WORD);
     }
     sum
 }
@@ -74,7 +75,7 @@ fn sum(room: &[u8], end: usize) -> u32 {
 // Puts a word at a place, if there is room.
 fn put_word(room: &mut [u8], at: usize, value: u32) {
     if at <= room.len() {
-        words::put_word(&mut room[at..], value);
+        let _ = words::put_word(&mut room[at..], value);
     }
 }
 
@@ -87,26 +88,28 @@ fn put_digit(room: &mut [u8], at: usize, d: u8) {
 
 // Puts what one character stands for behind so many digits, and answers how many there are then.
 fn character(room: &mut [u8], digits: usize, c: u8) -> usize {
-    if c == b'z' {
-        put_word(room, digits / 2, 0);
-        return std::num::wrapping_add_usize(digits, 8);
+    let at = digits / 2;
+    match (c, digit(c)) {
+        (b'z', _) => {
+            put_word(room, at, 0);
+            digits.wrapping_add(8)
+        }
+        (b'^', _) => {
+            let last = sum(room, at);
+            put_word(room, at, last);
+            digits.wrapping_add(8)
+        }
+        (_, Some(d)) => {
+            put_digit(room, at, d);
+            digits.wrapping_add(1)
+        }
+        (_, None) => digits,
     }
-    if c == b'^' {
-        let last = sum(room, digits / 2);
-        put_word(room, digits / 2, last);
-        return std::num::wrapping_add_usize(digits, 8);
-    }
-    let d = digit(c);
-    if d < 16 {
-        put_digit(room, digits / 2, d);
-        return std::num::wrapping_add_usize(digits, 1);
-    }
-    digits
 }
 
 // Takes the last four digits back: they say how often the text that comes is wanted.
 fn counted(room: &[u8], scan: Scan) -> Scan {
-    let digits = std::num::wrapping_sub_usize(scan.digits, 4);
+    let digits = scan.digits.wrapping_sub(4);
     Scan {
         digits,
         times: words::half_at(room, digits / 2),
@@ -116,37 +119,28 @@ fn counted(room: &[u8], scan: Scan) -> Scan {
 
 // A character outside quotes.
 fn plain(room: &mut [u8], scan: Scan, c: u8) -> Scan {
-    if c == b'"' {
-        return Scan {
+    match c {
+        b'"' => Scan {
             mode: Mode::Quoted,
             start: scan.digits / 2,
             ..scan
-        };
-    }
-    if c == b'*' {
-        return counted(room, scan);
-    }
-    if c == b'<' {
-        return Scan {
-            mode: Mode::Between,
+        },
+        b'*' => counted(room, scan),
+        b'<' => scan.goes_on(Mode::Between),
+        _ => Scan {
+            digits: character(room, scan.digits, c),
             ..scan
-        };
-    }
-    Scan {
-        digits: character(room, scan.digits, c),
-        ..scan
+        },
     }
 }
 
 // Puts the bytes from one place to another so often in all, and answers where they end.
 fn repeat(room: &mut [u8], start: usize, end: usize, times: u16) -> usize {
-    let size = std::num::wrapping_sub_usize(end, start) % SIZES;
-    let to = std::num::wrapping_add_usize(start, size * times as usize);
-    let mut i = end;
-    while i < to {
-        let b = words::byte_at(room, std::num::wrapping_sub_usize(i, size));
+    let size = end.wrapping_sub(start) % SIZES;
+    let to = start.wrapping_add(size * usize::from(times));
+    for i in end..to {
+        let b = words::byte_at(room, i.wrapping_sub(size));
         rooms::set(room, i, b);
-        i += 1;
     }
     to
 }
@@ -154,7 +148,7 @@ fn repeat(room: &mut [u8], start: usize, end: usize, times: u16) -> usize {
 // At the quote that ends a text.
 fn closed(room: &mut [u8], scan: Scan) -> Scan {
     let end = repeat(room, scan.start, scan.digits / 2, scan.times);
-    plainly(std::num::wrapping_add_usize(end, end))
+    plainly(end.wrapping_mul(2))
 }
 
 // Puts a byte of the text in quotes.
@@ -162,23 +156,18 @@ fn put(room: &mut [u8], scan: Scan, b: u8) -> Scan {
     rooms::set(room, scan.digits / 2, b);
     Scan {
         mode: Mode::Quoted,
-        digits: std::num::wrapping_add_usize(scan.digits, 2),
+        digits: scan.digits.wrapping_add(2),
         ..scan
     }
 }
 
 // A character in quotes.
 fn quoted(room: &mut [u8], scan: Scan, c: u8) -> Scan {
-    if c == b'"' {
-        return closed(room, scan);
+    match c {
+        b'"' => closed(room, scan),
+        b'\\' => scan.goes_on(Mode::Escaped),
+        _ => put(room, scan, c),
     }
-    if c == b'\\' {
-        return Scan {
-            mode: Mode::Escaped,
-            ..scan
-        };
-    }
-    put(room, scan, c)
 }
 
 // A character behind a backslash.
@@ -188,10 +177,7 @@ fn escaped(room: &mut [u8], scan: Scan, c: u8) -> Scan {
         b'r' => put(room, scan, b'\r'),
         b't' => put(room, scan, b'\t'),
         b'0' => put(room, scan, 0),
-        b'x' => Scan {
-            mode: Mode::Digit,
-            ..scan
-        },
+        b'x' => scan.goes_on(Mode::Digit),
         _ => put(room, scan, c),
     }
 }
@@ -199,14 +185,16 @@ fn escaped(room: &mut [u8], scan: Scan, c: u8) -> Scan {
 // A digit behind `\x`; the text goes on when the byte has both.
 fn escaped_digit(room: &mut [u8], scan: Scan, c: u8) -> Scan {
     let digits = character(room, scan.digits, c);
-    if digits % 2 == 0 {
-        return Scan {
-            mode: Mode::Quoted,
-            digits,
-            ..scan
-        };
+    let mode = if digits % 2 == 0 {
+        Mode::Quoted
+    } else {
+        scan.mode
+    };
+    Scan {
+        mode,
+        digits,
+        ..scan
     }
-    Scan { digits, ..scan }
 }
 
 // Puts a number in groups of seven bits, lowest first, from a place on, the high bit set on all but the last, and answers where they end.
@@ -215,52 +203,34 @@ fn groups(room: &mut [u8], at: usize, value: u32) -> usize {
     let mut i = at;
     while GROUP <= left {
         rooms::set(room, i, (left % GROUP + GROUP) as u8);
-        left = left / GROUP;
-        i = std::num::wrapping_add_usize(i, 1);
+        left /= GROUP;
+        i = i.wrapping_add(1);
     }
     rooms::set(room, i, left as u8);
-    std::num::wrapping_add_usize(i, 1)
+    i.wrapping_add(1)
 }
 
 // A character in angle brackets that stands behind no digit.
 fn between(scan: Scan, c: u8) -> Scan {
-    let d = digit(c);
-    if d < 16 {
-        return Scan {
-            mode: Mode::Number(d as u32),
-            ..scan
-        };
-    }
-    if c == b'>' {
-        return Scan {
-            mode: Mode::Plain,
-            ..scan
-        };
-    }
-    Scan {
-        mode: Mode::Between,
-        ..scan
+    match digit(c) {
+        Some(d) => scan.goes_on(Mode::Number(u32::from(d))),
+        None if c == b'>' => scan.goes_on(Mode::Plain),
+        None => scan.goes_on(Mode::Between),
     }
 }
 
 // A character behind the digits of a number, which ends where no digit follows.
 fn grouped(room: &mut [u8], scan: Scan, value: u32, c: u8) -> Scan {
-    let d = digit(c);
-    if d < 16 {
-        return Scan {
-            mode: Mode::Number(value % SEVEN_DIGITS * 16 + d as u32),
-            ..scan
-        };
+    if let Some(d) = digit(c) {
+        return scan.goes_on(Mode::Number(value % SEVEN_DIGITS * 16 + u32::from(d)));
     }
-    let end = groups(room, scan.digits / 2, value);
-    let digits = std::num::wrapping_add_usize(end, end);
+    let digits = groups(room, scan.digits / 2, value).wrapping_mul(2);
     between(Scan { digits, ..scan }, c)
 }
 
 // One character, wherever it stands.
 fn step(room: &mut [u8], scan: Scan, c: u8) -> Scan {
-    let mode = scan.mode;
-    match mode {
+    match scan.mode {
         Mode::Plain => plain(room, scan, c),
         Mode::Quoted => quoted(room, scan, c),
         Mode::Escaped => escaped(room, scan, c),
@@ -270,13 +240,11 @@ fn step(room: &mut [u8], scan: Scan, c: u8) -> Scan {
     }
 }
 
-// Puts the bytes of a line at the front of a room, and answers how many there are.
+/// Puts the bytes of a line at the front of a room, and answers how many there are.
 pub fn bytes(line: &[u8], room: &mut [u8]) -> usize {
     let mut scan = plainly(0);
-    let mut i = lines::find(line, 0, b':');
-    while i < line.len() {
-        scan = step(room, scan, line[i]);
-        i += 1;
+    for &c in lines::rest(line, lines::find(line, b':')) {
+        scan = step(room, scan, c);
     }
     scan.digits / 2
 }

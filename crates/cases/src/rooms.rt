@@ -1,28 +1,38 @@
-// Rooms, and writing into a lent one: of 256 bytes of aa the writer is lent the first few, at most 255, and all are looked at afterwards.
-// A writer that refuses must leave them all as they were; one that writes, all behind what it wrote.
+//! Rooms, and writing into a lent one: of 256 bytes of aa the writer is lent the first few, at most 255, and all are looked at afterwards.
+//! A writer that refuses must leave them all as they were; one that writes, all behind what it wrote.
 use super::{lines, say};
 use frame::Frame;
 use housekeeping::Housekeeping;
 pub use script::rooms::FILL;
-use wire::Command;
+use wire::{Command, Tell};
+use words::Code;
 
-// Sets a byte; nothing where the room has no such place.
+/// The front of a room, so long; all of one that is shorter.
+pub fn front<T>(room: &mut [T], size: usize) -> &mut [T] {
+    let end = size.min(room.len());
+    &mut room[..end]
+}
+
+/// The same for the length that a line says.
+pub fn lent<T>(room: &mut [T], size: u16) -> &mut [T] {
+    front(room, usize::from(size))
+}
+
+/// Sets a byte; nothing where the room has no such place.
 pub fn set(room: &mut [u8], at: usize, value: u8) {
     if at < room.len() {
         room[at] = value;
     }
 }
 
-// Puts bytes into a room from a place on, as far as they fit.
+/// Puts bytes into a room from a place on, as far as they fit.
 pub fn paste(room: &mut [u8], at: usize, s: &[u8]) {
-    let mut i: usize = 0;
-    while i < s.len() {
-        set(room, std::num::wrapping_add_usize(at, i), s[i]);
-        i += 1;
+    for (i, &b) in s.iter().enumerate() {
+        set(room, at.wrapping_add(i), b);
     }
 }
 
-// Are all bytes from a place on still aa?
+/// Are all bytes from a place on still aa?
 pub fn rest(room: &[u8], from: usize) {
     let changed = script::rooms::first_changed(room, from);
     if changed < room.len() {
@@ -32,93 +42,60 @@ pub fn rest(room: &[u8], from: usize) {
     }
 }
 
-// What a writer wrote, and what is behind it.
-fn written(room: &[u8], count: usize) {
-    say::text(b"code 0, wrote ");
-    say::hex(lines::part(room, 0, count));
-    rest(room, count);
-}
-
-// Lends the front of a room to the writer of a command.
-fn write_command(command: Command, room: &mut [u8], size: usize) -> wire::Writing {
-    if size <= room.len() {
-        wire::write_command(command, &mut room[0..size])
-    } else {
-        wire::Writing::Refused(wire::Refusal::NoRoom)
-    }
-}
-
-// Writes a command into so many bytes of a room, and says what came of it.
-pub fn put_command(command: Command, size: usize) {
+// Lends so many bytes of a room to a writer, and says what came of it: what was written, or why nothing was, and what is behind it.
+fn put<E, W, R>(size: u8, write: W, refused: R)
+where
+    W: FnOnce(&mut [u8]) -> Result<usize, E>,
+    R: FnOnce(E) + Drop,
+    requires write_callable { W.IsAlwaysCallable write }
+    requires refused_callable { R.IsAlwaysCallable refused }
+{
     let mut room = [FILL; 256];
-    match write_command(command, &mut room, size) {
-        wire::Writing::Written(count) => written(&room, count),
-        wire::Writing::Refused(refusal) => {
-            say::told(wire::told_of(refusal));
+    match write(&mut room[..usize::from(size)]) {
+        Ok(count) => {
+            say::text(b"code 0, wrote ");
+            say::hex(lines::part(&room, 0, count));
+            rest(&room, count);
+        }
+        Err(refusal) => {
+            refused(refusal);
             rest(&room, 0);
         }
     }
 }
 
-// Lends the front of a room to the writer of a frame.
-fn write_frame(f: Frame, room: &mut [u8], size: usize) -> frame::Writing {
-    if size <= room.len() {
-        frame::write_frame(f, &mut room[0..size])
-    } else {
-        frame::Writing::Refused(frame::Refusal::NoRoom)
-    }
+/// Writes a command into so many bytes of a room, and says what came of it.
+pub fn put_command(command: Command, size: u8) {
+    put(
+        size,
+        |room| wire::write_command(command, room),
+        |refusal| say::told(refusal.told()),
+    );
 }
 
-// Writes a frame into so many bytes of a room, and says what came of it.
-pub fn put_frame(f: Frame, size: usize) {
-    let mut room = [FILL; 256];
-    match write_frame(f, &mut room, size) {
-        frame::Writing::Written => written(&room, frame::SIZE),
-        frame::Writing::Refused(refusal) => {
-            say::field8(b"code ", frame::code_of(refusal));
-            rest(&room, 0);
-        }
-    }
+/// Writes a frame into so many bytes of a room, and says what came of it.
+pub fn put_frame(f: Frame, size: u8) {
+    put(
+        size,
+        |room| frame::write_frame(f, room).map(|()| frame::SIZE),
+        |refusal| say::field8(b"code ", refusal.code()),
+    );
 }
 
-// Lends the front of a room to the writer of a housekeeping frame.
-fn write_housekeeping(h: Housekeeping, room: &mut [u8], size: usize) -> housekeeping::Writing {
-    if size <= room.len() {
-        housekeeping::write_housekeeping(h, &mut room[0..size])
-    } else {
-        housekeeping::Writing::NoRoom
-    }
+/// Writes a housekeeping frame into so many bytes of a room, and says what came of it.
+pub fn put_housekeeping(h: Housekeeping, size: u8) {
+    put(
+        size,
+        |room| housekeeping::write_housekeeping(h, room).map(|()| housekeeping::SIZE),
+        |refusal| say::field8(b"code ", refusal.code()),
+    );
 }
 
-// Writes a housekeeping frame into so many bytes of a room, and says what came of it.
-pub fn put_housekeeping(h: Housekeeping, size: usize) {
-    let mut room = [FILL; 256];
-    match write_housekeeping(h, &mut room, size) {
-        housekeeping::Writing::Written => written(&room, housekeeping::SIZE),
-        housekeeping::Writing::NoRoom => {
-            say::text(b"code 24");
-            rest(&room, 0);
-        }
-    }
-}
-
-// Lends the front of a room to the writer of a frame of the gas valve.
-fn write_valve(f: valve::Frame, room: &mut [u8], size: usize) -> valve::Writing {
-    if size <= room.len() {
-        valve::write_frame(f, &mut room[0..size])
-    } else {
-        valve::Writing::NoRoom
-    }
-}
-
-// Writes a frame of the gas valve into so many bytes of a room, and says what came of it.
-pub fn put_valve(f: valve::Frame, size: usize) {
-    let mut room = [FILL; 256];
-    match write_valve(f, &mut room, size) {
-        valve::Writing::Written => written(&room, valve::SIZE),
-        valve::Writing::NoRoom => {
-            say::text(b"code 24");
-            rest(&room, 0);
-        }
-    }
+/// Writes a frame of the gas valve into so many bytes of a room, and says what came of it.
+pub fn put_valve(f: valve::Frame, size: u8) {
+    put(
+        size,
+        |room| valve::write_frame(f, room).map(|()| valve::SIZE),
+        |refusal| say::field8(b"code ", refusal.code()),
+    );
 }

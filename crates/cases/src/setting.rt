@@ -1,5 +1,5 @@
-// `set` writes fields of the bench whatever the rules say, so that unsound states can be made: one byte says which, and their values come behind it.
-// Any other byte, and none at all, leaves the bench as it is.
+//! `set` writes fields of the bench whatever the rules say, so that unsound states can be made: one byte says which, and their values come behind it.
+//! Any other byte, and none at all, leaves the bench as it is.
 use super::compare::WORDS;
 use bench::Bench;
 use camera::{Camera, Series};
@@ -70,8 +70,7 @@ fn with_camera(camera: Camera, s: &[u8]) -> Camera {
 }
 
 // The store with a macro's count and its closed mark.
-fn with_macro(store: Store, s: &[u8]) -> Store {
-    let mut store = store;
+fn with_macro(mut store: Store, s: &[u8]) -> Store {
     let m = words::byte_at(s, 1) as usize;
     if m < store::MACROS {
         store.counts[m] = words::byte_at(s, 2);
@@ -81,28 +80,20 @@ fn with_macro(store: Store, s: &[u8]) -> Store {
 }
 
 // The store with these words as an entry of the pool.
-fn with_words(store: Store, place: u8, head: u32, first: u32, second: u32) -> Store {
-    let mut store = store;
-    let at = (place as usize) * 3;
+fn with_words(mut store: Store, place: u8, entry: [u32; 3]) -> Store {
+    let at = usize::from(place) * 3;
     if at + 2 < WORDS {
-        store.pool[at] = head;
-        store.pool[at + 1] = first;
-        store.pool[at + 2] = second;
+        store.pool[at..at + 3].copy_from_slice(&entry);
     }
     store
 }
 
 // The store with a flag, an opcode and two arguments as an entry, whatever they are.
 fn with_entry(store: Store, s: &[u8]) -> Store {
-    let flag = (words::byte_at(s, 2) % 2) as u32;
-    let head = (words::half_at(s, 3) as u32) * 2 + flag;
-    with_words(
-        store,
-        words::byte_at(s, 1),
-        head,
-        words::word_at(s, 5),
-        words::word_at(s, 9),
-    )
+    let flag = u32::from(words::byte_at(s, 2) % 2);
+    let head = u32::from(words::half_at(s, 3)) * 2 + flag;
+    let entry = [head, words::word_at(s, 5), words::word_at(s, 9)];
+    with_words(store, words::byte_at(s, 1), entry)
 }
 
 // The store with the line's fields in it.
@@ -116,41 +107,35 @@ fn with_store(store: Store, s: &[u8]) -> Store {
         },
         MACRO => with_macro(store, s),
         ENTRY => with_entry(store, s),
-        ENTRY_WORDS => with_words(
-            store,
-            words::byte_at(s, 1),
-            words::word_at(s, 2),
-            words::word_at(s, 6),
-            words::word_at(s, 10),
-        ),
+        ENTRY_WORDS => {
+            let entry = [
+                words::word_at(s, 2),
+                words::word_at(s, 6),
+                words::word_at(s, 10),
+            ];
+            with_words(store, words::byte_at(s, 1), entry)
+        }
         _ => store,
     }
 }
 
 // The numbers of the latest run, the line's where it says so.
 fn with_latest(latest: Latest, s: &[u8]) -> Latest {
-    if words::byte_at(s, 0) == LATEST {
-        Latest {
+    match words::byte_at(s, 0) {
+        LATEST => Latest {
             received: words::word_at(s, 1),
             failed: words::word_at(s, 5),
             code: words::byte_at(s, 9),
-        }
-    } else {
-        latest
+        },
+        _ => latest,
     }
 }
 
-// `set`: the bench with the line's fields in it.
+/// `set`: the bench with the line's fields in it.
 pub fn set(b: Bench, s: &[u8]) -> Bench {
-    let camera = b.camera;
-    let store = b.store;
-    let latest = b.latest;
-    let camera = with_camera(camera, s);
-    let store = with_store(store, s);
-    let latest = with_latest(latest, s);
     Bench {
-        camera,
-        store,
-        latest,
+        camera: with_camera(b.camera, s),
+        store: with_store(b.store, s),
+        latest: with_latest(b.latest, s),
     }
 }

@@ -1,10 +1,11 @@
-// Housekeeping frames. `tags` reads bytes as one, and writes what was taken into a room of 40 bytes; `pack`, whose line has the size of the room in
-// front, writes the frame of four numbers: the last received and the last failed number, 32 bits each, its code and the free slots, 8 bits each.
+//! Housekeeping frames. `tags` reads bytes as one, and writes what was taken into a room of 40 bytes; `pack`, whose line has the size of the room in
+//! front, writes the frame of four numbers: the last received and the last failed number, 32 bits each, its code and the free slots, 8 bits each.
 use super::{lines, rooms, say, telling};
-use housekeeping::{Housekeeping, Reading};
+use housekeeping::Housekeeping;
+use words::Code;
 
 // A room with some bytes to spare behind the frame.
-const AMPLE: usize = 40;
+const AMPLE: u8 = 40;
 
 // A frame that was taken: its numbers, and the bytes that it is written as.
 fn taken(h: Housekeeping) {
@@ -14,11 +15,11 @@ fn taken(h: Housekeeping) {
     rooms::put_housekeeping(h, AMPLE);
 }
 
-// `tags`: the code of reading these bytes.
+/// `tags`: the code of reading these bytes.
 pub fn read(s: &[u8]) {
     match housekeeping::read_housekeeping(s) {
-        Reading::Taken(h) => taken(h),
-        Reading::Refused(refusal) => say::field8(b"code ", housekeeping::code_of(refusal)),
+        Ok(h) => taken(h),
+        Err(refusal) => say::field8(b"code ", refusal.code()),
     }
 }
 
@@ -32,8 +33,7 @@ fn fields(s: &[u8]) -> Housekeeping {
     }
 }
 
-// `pack`: writes them into a room.
+/// `pack`: writes them into a room.
 pub fn write(s: &[u8]) {
-    let size = words::byte_at(s, 0) as usize;
-    rooms::put_housekeeping(fields(lines::part(s, 1, s.len())), size);
+    rooms::put_housekeeping(fields(lines::rest(s, 1)), words::byte_at(s, 0));
 }

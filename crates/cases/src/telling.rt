@@ -1,7 +1,7 @@
-// The status of a bench in one line: every field of its status frame by name. Goals are bits in hex, power, auto flush and loop 0 or 1; 255 is no
-// macro, and `closed` has bit m for macro m. Beside it the free entries and the housekeeping, which the frame does not have.
+//! The status of a bench in one line: every field of its status frame by name. Goals are bits in hex, power, auto flush and loop 0 or 1; 255 is no
+//! macro, and `closed` has bit m for macro m. Beside it the free entries and the housekeeping, which the frame does not have.
 use super::say;
-use bench::{Bench, Free, Housekept, Status};
+use bench::{Bench, Code, Unsound};
 use frame::{Frame, Pace};
 use housekeeping::Housekeeping;
 
@@ -39,54 +39,50 @@ fn macros(f: Frame) {
 
 // All fields of a frame.
 fn fields(f: Frame) {
-    let image = f.image;
-    let track = f.track;
-    series(b"image time ", image);
-    series(b", track time ", track);
+    series(b"image time ", f.image);
+    series(b", track time ", f.track);
     aim(f);
     modes(f);
     say::field8(b", flushes ", f.flushes);
     macros(f);
 }
 
-// The fields of a frame that was asked for, or 27.
-pub fn told(status: Status) {
+/// The fields of a frame that was asked for, or 27.
+pub fn told(status: Result<Frame, Unsound>) {
     match status {
-        Status::Known(f) => fields(f),
-        Status::Unsound => say::text(b"status 27"),
+        Ok(f) => fields(f),
+        Err(refused) => say::field8(b"status ", refused.code()),
     }
 }
 
-// Those of the bench's own, behind what parts them from the text before.
+/// Those of the bench's own, behind what parts them from the text before.
 pub fn status(parting: &[u8], b: Bench) {
     say::text(parting);
     told(b.status());
 }
 
-// The code of asking for the free entries, and how many there are where it is 0, behind this name.
+/// The code of asking for the free entries, and how many there are where it is 0, behind this name.
 pub fn free(name: &[u8], b: Bench) {
-    match b.free() {
-        Free::Known(count) => {
-            say::field8(name, 0);
-            say::field8(b" ", count);
-        }
-        Free::Unsound => say::field8(name, 27),
+    let free = b.free();
+    say::field8(name, bench::code_of(&free));
+    if let Ok(count) = free {
+        say::field8(b" ", count);
     }
 }
 
-// The numbers of a housekeeping frame.
+/// The numbers of a housekeeping frame.
 pub fn numbers(h: Housekeeping) {
-    say::field(b"received ", h.received as u64);
-    say::field(b" failed ", h.failed as u64);
+    say::field(b"received ", u64::from(h.received));
+    say::field(b" failed ", u64::from(h.failed));
     say::field8(b" code ", h.code);
     say::field8(b" free ", h.free);
 }
 
-// Those of the bench, or 27, behind what parts them from the text before.
+/// Those of the bench, or 27, behind what parts them from the text before.
 pub fn kept(parting: &[u8], b: Bench) {
     say::text(parting);
     match b.housekeeping() {
-        Housekept::Known(h) => numbers(h),
-        Housekept::Unsound => say::text(b"housekeeping 27"),
+        Ok(h) => numbers(h),
+        Err(refused) => say::field8(b"housekeeping ", refused.code()),
     }
 }

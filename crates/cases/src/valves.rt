@@ -1,17 +1,14 @@
-// The gas valve. `gas`, whose line has the size of the room in front, reads bytes as a frame and writes what was taken into that room. `valve` carries out
-// frames one after another, each behind its size; its line begins with 00 for a fresh valve, 01 for a safe, 02 for an armed and 03 for a fired one.
+//! The gas valve. `gas`, whose line has the size of the room in front, reads bytes as a frame and writes what was taken into that room. `valve` carries out
+//! frames one after another, each behind its size; its line begins with 00 for a fresh valve, 01 for a safe, 02 for an armed and 03 for a fired one.
 use super::{lines, rooms, say};
-use valve::{Act, Carried, Frame, Reading, Valve, Verdict};
-
-// Where the first frame of a line of `valve` begins, with its size.
-const FRAMES: usize = 1;
+use valve::{Act, Frame, Refusal, Valve};
+use words::Code;
 
 // A frame that was taken: its flags, what it asks, and the bytes that it is written as.
-fn taken(f: Frame, size: usize) {
-    let act = f.act;
+fn taken(f: Frame, size: u8) {
     say::flag(b"code 0, ocpl ", f.ocpl);
     say::flag(b" quiet ", f.quiet);
-    match act {
+    match f.act {
         Act::Arm => say::text(b", arm"),
         Act::Fire(code) => say::hex16(b", fire ", code),
     }
@@ -19,11 +16,11 @@ fn taken(f: Frame, size: usize) {
     rooms::put_valve(f, size);
 }
 
-// `gas`: the code of reading these bytes.
+/// `gas`: the code of reading these bytes.
 pub fn read(s: &[u8]) {
-    match valve::read_frame(lines::part(s, 1, s.len())) {
-        Reading::Taken(f) => taken(f, words::byte_at(s, 0) as usize),
-        Reading::Refused(refusal) => say::field8(b"code ", valve::code_of(refusal)),
+    match valve::read_frame(lines::rest(s, 1)) {
+        Ok(f) => taken(f, words::byte_at(s, 0)),
+        Err(refusal) => say::field8(b"code ", refusal.code()),
     }
 }
 
@@ -37,29 +34,25 @@ fn begun(which: u8) -> Valve {
     }
 }
 
-// What came of the frame at a place of the line: the code, and the status word of the valve, which goes on.
-fn answer(at: usize, carried: Carried) -> Valve {
-    let verdict = carried.verdict;
-    let next = carried.valve;
-    if FRAMES < at {
-        say::text(b", ");
-    }
-    match verdict {
-        Verdict::Accepted => say::text(b"code 0"),
-        Verdict::Refused(refusal) => say::field8(b"code ", valve::code_of(refusal)),
-    }
+// What came of a frame: the code, and the status word of the valve, which goes on.
+fn answer(valve: Valve, carried: Result<Valve, Refusal>) -> Valve {
+    let next = carried.unwrap_or(valve);
+    say::field8(b"code ", words::code_of(&carried));
     say::hex16(b" status ", next.status());
     next
 }
 
-// `valve`: the code and the status of each frame.
+/// `valve`: the code and the status of each frame.
 pub fn carry_out(s: &[u8]) {
     let mut valve = begun(words::byte_at(s, 0));
-    let mut at = FRAMES;
-    while at < s.len() {
-        let from = at + 1;
-        let end = from + words::byte_at(s, at) as usize;
-        valve = answer(at, valve.carry_out(lines::part(s, from, end)));
-        at = end;
+    let mut parting: &[u8] = b"";
+    let mut left = lines::rest(s, 1);
+    // Each frame says how far the next one is, so that no iterator of the library goes over them.
+    while let [size, rest @ ..] = left {
+        let size = usize::from(*size);
+        say::text(parting);
+        valve = answer(valve, valve.carry_out(lines::part(rest, 0, size)));
+        parting = b", ";
+        left = &rest[size.min(rest.len())..];
     }
 }

@@ -1,9 +1,0 @@
--- `times` ends: the turns that are left fall.
-use Rattle.std.proofs.Common.{◌-◌}
-use Rattle.cases.proofs.making.times.Given as goal
-
-abbrev pub invariant-loop-k : goal.invariant-loop-k
-invariant-loop-k l = Unit {0}
-
-abbrev pub decreases-loop-k : goal.decreases-loop-k
-decreases-loop-k l = l.count - l.k

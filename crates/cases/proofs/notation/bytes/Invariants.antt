@@ -1,9 +1,0 @@
--- `bytes` is safe and ends: each read is behind the loop's test, the room keeps its length, and what is left of the line falls.
-use Rattle.std.proofs.Common.{◌≡◌, ◌-◌, length}
-use Rattle.cases.proofs.notation.bytes.Given as goal
-
-abbrev pub invariant-loop-i : goal.invariant-loop-i
-invariant-loop-i l = length l.room ≡ length l.initial.room
-
-abbrev pub decreases-loop-i : goal.decreases-loop-i
-decreases-loop-i l = length l.line - l.i
