@@ -14,6 +14,7 @@ use super::goal::quarters_in;
 use super::names::name_of;
 use walk::Commands;
 use wire::{Command, Layout};
+use words::Writer;
 
 // The text of the longest list fits: a line is at most twice as long as its command's bytes.
 const BUFFER: usize = 2 * walk::LONGEST;
@@ -46,79 +47,82 @@ fn offer_at(rest: &[u8]) -> Result<Command, Fault>
     }
 }
 
-// The writers below put their bytes into the buffer from a place on, and say which place comes next.
+// The writers below put their bytes at the place that comes next.
 
 // The mark of the macro flag.
-fn put_flag(buffer: &mut [u8], at: usize, flag: bool) -> usize
-    ensures value { result ≡ place_after (mark flag) at buffer.old }
-    ensures buffer_after { buffer.new ≡ stored_at (mark flag) at buffer.old }
+fn put_flag(line: &mut Writer, flag: bool)
+    ensures value { line.new.at ≡ place_after (mark flag) line.old.at line.old.room.now }
+    ensures room_after { line.new.room.now ≡ stored_at (mark flag) line.old.at line.old.room.now }
+    ensures same_room { line.new.room.ghost_name ≡ line.old.room.ghost_name }
 {
     if flag {
-        words::put_at(buffer, at, b"+")
-    } else {
-        at
+        line.text(b"+");
     }
 }
 
 // A whole number after a space.
-fn put_number(buffer: &mut [u8], at: usize, value: u32) -> usize
-    requires { at + length (space ∷ decimal value) ≤ length buffer.old }
-    ensures value { result ≡ at + length (space ∷ decimal value) }
-    ensures buffer_after { buffer.new ≡ sets buffer.old at (space ∷ decimal value) }
+fn put_number(line: &mut Writer, value: u32)
+    requires { line.old.at + length (space ∷ decimal value) ≤ length line.old.room.now }
+    ensures value { line.new.at ≡ line.old.at + length (space ∷ decimal value) }
+    ensures room_after { line.new.room.now ≡ sets line.old.room.now line.old.at (space ∷ decimal value) }
+    ensures same_room { line.new.room.ghost_name ≡ line.old.room.ghost_name }
 {
-    let start = words::put_at(buffer, at, b" ");
-    words::put_decimal(buffer, start, value)
+    line.text(b" ");
+    line.number(value);
 }
 
 // The end of a goal that is so many quarters above a whole number.
-fn put_fraction(buffer: &mut [u8], at: usize, quarters: u32) -> usize
-    ensures value { result ≡ place_after (fraction quarters) at buffer.old }
-    ensures buffer_after { buffer.new ≡ stored_at (fraction quarters) at buffer.old }
+fn put_fraction(line: &mut Writer, quarters: u32)
+    ensures value { line.new.at ≡ place_after (fraction quarters) line.old.at line.old.room.now }
+    ensures room_after { line.new.room.now ≡ stored_at (fraction quarters) line.old.at line.old.room.now }
+    ensures same_room { line.new.room.ghost_name ≡ line.old.room.ghost_name }
 {
     match quarters {
-        0 => at,
-        1 => words::put_at(buffer, at, b".25"),
-        2 => words::put_at(buffer, at, b".5"),
-        _ => words::put_at(buffer, at, b".75"),
+        0 => (),
+        1 => line.text(b".25"),
+        2 => line.text(b".5"),
+        _ => line.text(b".75"),
     }
 }
 
 // A goal after a space; the space alone where the text cannot say it.
-fn put_goal(buffer: &mut [u8], at: usize, bits: u32) -> usize
-    requires { at + length (space ∷ said_text (quarters_in bits)) ≤ length buffer.old }
-    ensures value { result ≡ at + length (space ∷ said_text (quarters_in bits)) }
-    ensures buffer_after { buffer.new ≡ sets buffer.old at (space ∷ said_text (quarters_in bits)) }
+fn put_goal(line: &mut Writer, bits: u32)
+    requires { line.old.at + length (space ∷ said_text (quarters_in bits)) ≤ length line.old.room.now }
+    ensures value { line.new.at ≡ line.old.at + length (space ∷ said_text (quarters_in bits)) }
+    ensures room_after { line.new.room.now ≡ sets line.old.room.now line.old.at (space ∷ said_text (quarters_in bits)) }
+    ensures same_room { line.new.room.ghost_name ≡ line.old.room.ghost_name }
 {
     match quarters_in(bits) {
-        None => words::put_at(buffer, at, b" "),
+        None => line.text(b" "),
         Some(quarters) => {
-            let end = put_number(buffer, at, quarters / WHOLE);
-            put_fraction(buffer, end, quarters % WHOLE)
+            put_number(line, quarters / WHOLE);
+            put_fraction(line, quarters % WHOLE);
         }
     }
 }
 
 // The arguments, each after a space.
-fn put_arguments(buffer: &mut [u8], at: usize, layout: Layout, first: u32, second: u32) -> usize
-    requires { at + length (arguments_text layout first second) ≤ length buffer.old }
-    ensures value { result ≡ at + length (arguments_text layout first second) }
-    ensures buffer_after { buffer.new ≡ sets buffer.old at (arguments_text layout first second) }
+fn put_arguments(line: &mut Writer, layout: Layout, first: u32, second: u32)
+    requires { line.old.at + length (arguments_text layout first second) ≤ length line.old.room.now }
+    ensures value { line.new.at ≡ line.old.at + length (arguments_text layout first second) }
+    ensures room_after { line.new.room.now ≡ sets line.old.room.now line.old.at (arguments_text layout first second) }
+    ensures same_room { line.new.room.ghost_name ≡ line.old.room.ghost_name }
 {
     match layout {
-        Layout::Bare => at,
-        Layout::Byte | Layout::Half => put_number(buffer, at, first),
+        Layout::Bare => (),
+        Layout::Byte | Layout::Half => put_number(line, first),
         Layout::Halves => {
-            let end = put_number(buffer, at, first);
-            put_number(buffer, end, second)
+            put_number(line, first);
+            put_number(line, second);
         }
         Layout::Singles => {
-            let end = put_goal(buffer, at, first);
-            put_goal(buffer, end, second)
+            put_goal(line, first);
+            put_goal(line, second);
         }
     }
 }
 
-// A command's line with its line feed.
+// A command's line with its line feed, from a place on; it says which place comes next.
 fn put_line(buffer: &mut [u8], at: usize, command: Command) -> usize
     requires { at + length (ended_line command) ≤ length buffer.old }
     ensures value { result ≡ at + length (ended_line command) }
@@ -126,10 +130,12 @@ fn put_line(buffer: &mut [u8], at: usize, command: Command) -> usize
 {
     let parts = wire::parts_of(command.kind);
     let row = wire::row_of(parts.form);
-    let at = put_flag(buffer, at, command.flag);
-    let at = words::put_at(buffer, at, name_of(parts.form));
-    let at = put_arguments(buffer, at, row.layout, parts.first, parts.second);
-    words::put_at(buffer, at, b"\n")
+    let mut line = Writer { room: buffer, at };
+    put_flag(&mut line, command.flag);
+    line.text(name_of(parts.form));
+    put_arguments(&mut line, row.layout, parts.first, parts.second);
+    line.text(b"\n");
+    line.at
 }
 
 // A list judged, and its text put at the front of the buffer.
