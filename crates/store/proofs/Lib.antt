@@ -22,7 +22,6 @@ pub mod Seconds
 pub mod WaitLaws
 pub mod SpanLaws
 pub mod SpanTable
-pub mod Beats
 pub mod Gathered
 pub mod Turns
 pub mod SoundLaws

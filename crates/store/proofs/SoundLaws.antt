@@ -1,4 +1,4 @@
--- Laws of the store's soundness: an entry by its words, tests of all entries and of all macros, one after another, and spans that are told up to
+-- Laws of the store's soundness: an entry by its form, tests of all entries and of all macros, one after another, and spans that are told up to
 -- 601 seconds and 65 entries.
 use Prim.Native.Nat.{ℕ, ◌+◌, ◌%◌, ◌≤◌, ◌<◌, min}
 use mathlib.Core.Path.{◌≡◌, refl, sym, ap, ◌∙◌}
@@ -12,21 +12,17 @@ use borrow.Author.Tests.{ltb-true, ltb-false, leb-true, leb-false, le-leb, lt-le
 use Rattle.words.specs.Codes.{Check, ◌when◌, first_of}
 use Rattle.wire.specs.declared.table.Form.{Form}
 use Rattle.wire.specs.declared.table.Row.{Row}
-use Rattle.std.specs.Prelude.{Option, Some, None}
 use Rattle.wire.specs.declared.kinds.Kind.{Kind}
 use Rattle.wire.specs.declared.kinds.Command.{Command}
-use Rattle.wire.specs.declared.judging.Refusal.{Refusal}
-use Rattle.wire.specs.declared.judging.Told.{Told}
-use Rattle.std.specs.Prelude.{Result, Ok, Err}
 use Rattle.wire.specs.Table.{row_of}
 use Rattle.wire.specs.Kind.{kind_of}
-use Rattle.wire.specs.Judge.{told_of, told_judged, first_bad, flag_checks, row_checks}
+use Rattle.wire.specs.Judge.{first_bad, flag_checks, row_checks}
 use Rattle.wire.proofs.Ranges.{in_range_judge}
 use Rattle.store.specs.declared.Store.{Store}
 use Rattle.store.specs.declared.spans.Span.{Span}
 use Rattle.store.specs.declared.tally.Tally.{Tally}
 use Rattle.store.specs.Roles.{role_of, is_run, number_of}
-use Rattle.store.specs.Words.{no_command, command_for}
+use Rattle.store.specs.Words.{no_command}
 use Rattle.store.specs.Pool.{is_closed, used_in, size_of, start_of, between}
 use Rattle.store.specs.WrittenOut.{most_in, written_out}
 use Rattle.store.specs.Checks.{row17, row18}
@@ -37,27 +33,6 @@ use Rattle.store.specs.TallySteps.{store_of, span_by, form_holds, macro_by}
 use Rattle.store.proofs.Walk.{entries_at}
 use Rattle.store.proofs.SpanTable.{told_length, told_most}
 use Rattle.store.proofs.Sound.{below_of, closed_of_lem, sound_of, mark_small}
-
--- A command passes 8 to 10 exactly where the wire's judgement allows it: no refusal has the code 0.
-refusal_code : (refusal : Refusal) → eqb (told_of refusal).code 0 ≡ false
-refusal_code Refusal.TooFewBytes = refl
-refusal_code Refusal.LengthOutOfBounds = refl
-refusal_code Refusal.CutOff = refl
-refusal_code Refusal.SumDiffers = refl
-refusal_code Refusal.UnknownOpcode = refl
-refusal_code Refusal.WrongLength = refl
-refusal_code Refusal.PadNotZero = refl
-refusal_code (Refusal.OutOfRange par) = refl
-refusal_code Refusal.FlagForbidden = refl
-refusal_code Refusal.FlagMissing = refl
-refusal_code Refusal.NoRoom = refl
-
-pub passes_allowed : (told : Told) (r : Result (Unit {0}) Refusal) → told_judged r ≡ told → r ≡ Ok tt → true ≡ eqb told.code 0
-passes_allowed told r tells is = rw (← tells, is)
-
-pub passes_refused : (told : Told) (r : Result (Unit {0}) Refusal) (refusal : Refusal) → told_judged r ≡ told → r ≡ Err refusal
-    → false ≡ eqb told.code 0
-passes_refused told r refusal tells is = rw (← tells, is) (sym (refusal_code refusal))
 
 -- Three tests, each told otherwise.
 all_three : {a b c x y z : Bool} → a ≡ x → b ≡ y → c ≡ z → (x && y && z) ≡ (a && b && c)
@@ -132,27 +107,6 @@ module _ (closed : List Bool) (m : ℕ) (first second : ℕ) where
         go true e = run_closed led holds (ltb-true (first % 256) m e) (is ∙ ap (λ below. below && get_or closed (first % 256) false) e)
         go false e =
             is ∙ ap (λ below. below && get_or closed (first % 256) false) e ∙ run_upward holds (ltb-false (first % 256) m e)
-
--- An entry by its first word: with flag 0, or with an opcode that is not in the table, it does not hold; otherwise its form is asked.
-module _ (closed : List Bool) (m : ℕ) (found : Option (Form × ℕ)) (flag : Bool) (first second : ℕ) where
-  pub entry_unflagged : flag ≡ false → false ≡ entry_holds closed m (command_for found flag first second)
-  entry_unflagged off = rw off (go found)
-    where
-      by : (inside : Bool) (kind : Kind) → false ≡ entry_holds closed m (cond inside (record { flag = false; kind = kind }) no_command)
-      by true kind = refl
-      by false kind = refl
-
-      go : (f : Option (Form × ℕ)) → false ≡ entry_holds closed m (command_for f false first second)
-      go (Some (form, words)) = by (eqb (first_bad (row_of form) first second) 0) (kind_of form first second)
-      go None = refl
-
-  pub entry_unknown : found ≡ None → false ≡ entry_holds closed m (command_for found flag first second)
-  entry_unknown is = rw is
-
-  pub entry_known : (form : Form) (words : ℕ) (holds : Bool) → found ≡ Some (form, words) → flag ≡ true
-      → holds ≡ form_holds closed m form first second
-      → holds ≡ entry_holds closed m (command_for found flag first second)
-  entry_known form words holds is on told = rw (is, on) told
 
 -- A test of all elements, one after another.
 pub all_on : (test : Command → Bool) (e : Command) (es rest : List Command) → es ≡ e ∷ rest → test e ≡ true → all_of test es ≡ all_of test rest

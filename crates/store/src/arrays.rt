@@ -4,6 +4,7 @@ ghost use Rattle.store.specs.Words.{bit};
 ghost use Rattle.store.specs.Pool.{marks_of};
 
 /// Puts another value in the place of macro m.
+// By a test of the place: `get_mut` was tried, and not proved.
 pub(crate) fn put<T: Copy>(values: &mut [T], m: u8, value: T)
     ensures { values.new ≡ set values.old m value }
 {
@@ -13,6 +14,7 @@ pub(crate) fn put<T: Copy>(values: &mut [T], m: u8, value: T)
     }
 }
 
+/// A mark as a bit, 1 for a macro that is closed.
 fn bit_of(on: bool) -> u8
     ensures { result ≡ bit on }
 {

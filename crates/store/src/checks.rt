@@ -1,15 +1,15 @@
-//! Rows 11 to 19 and 25 of the codes, each as a test on the few numbers that it looks at. Rules: "The codes".
+//! Rows 11 to 19 and 25 of the codes, each as a test on the few numbers that it looks at. Rules: "Codes, in the order they are tried".
 ghost use Rattle.std.specs.Prelude.{◌≡◌};
 ghost use Rattle.words.specs.Codes.{first_of};
 ghost use Rattle.store.specs.Checks.{code_of, code_of_some, told_permit, row11, row12, row13, row14, row15, row25, row16, row17, row18, row19};
 ghost use Rattle.store.specs.TallySteps.{used_by, entry_checks};
 
-use super::roles::{Role, is_clear, is_close, is_open, is_run, number_of};
+use super::roles::Role;
 use super::tally::Tally;
 use super::{ENTRIES, GROUP, LONGEST, NONE};
 use words::Code;
 
-/// Why a command that passed codes 1 to 10 is refused by the macro store. Rules: "The codes".
+/// Why a command that passed codes 1 to 10 is refused by the macro store. Rules: "Codes, in the order they are tried".
 #[derive(Clone, Copy, Debug, PartialEq, Eq)]
 pub enum Denial {
     NoneOpen,
@@ -49,42 +49,42 @@ impl Code for Denial {
 pub(crate) fn lacks_open(flag: bool, role: Role, opened: u8) -> bool
     ensures { result ≡ row11 flag role opened }
 {
-    (flag || is_close(role)) && opened == NONE
+    (flag || role.is_close()) && opened == NONE
 }
 
 /// Row 12: OPEN while one is open.
 pub(crate) fn opens_another(role: Role, opened: u8) -> bool
     ensures { result ≡ row12 role opened }
 {
-    is_open(role) && opened != NONE
+    role.is_open() && opened != NONE
 }
 
 /// Row 13: OPEN of a closed macro.
 pub(crate) fn opens_closed(role: Role, tally: &Tally) -> bool
     ensures { result ≡ row13 role tally.now.closed }
 {
-    is_open(role) && tally.is_closed(number_of(role))
+    role.is_open() && tally.is_closed(role.number())
 }
 
 /// Row 14: CLOSE of a macro without entries.
 pub(crate) fn closes_empty(role: Role, count: u8) -> bool
     ensures { result ≡ row14 role count }
 {
-    is_close(role) && count == 0
+    role.is_close() && count == 0
 }
 
 /// Row 15: CLOSE where the written-out length exceeds LONGEST.
 pub(crate) fn closes_too_long(role: Role, length: u16) -> bool
     ensures { result ≡ row15 role length }
 {
-    is_close(role) && LONGEST < length
+    role.is_close() && LONGEST < length
 }
 
 /// Row 25: CLOSE where a second has more entries than GROUP.
 pub(crate) fn closes_too_many(role: Role, most: u8) -> bool
     ensures { result ≡ row25 role most }
 {
-    is_close(role) && GROUP < most as usize
+    role.is_close() && GROUP < most as usize
 }
 
 /// Row 16: an append where no entry is free.
@@ -98,21 +98,21 @@ fn lacks_entry(flag: bool, used: usize) -> bool
 fn runs_upward(flag: bool, role: Role, opened: u8) -> bool
     ensures { result ≡ row17 flag role opened }
 {
-    flag && is_run(role) && opened <= number_of(role)
+    flag && role.is_run() && opened <= role.number()
 }
 
 /// Row 18: RUN of a macro not closed.
 fn runs_unclosed(role: Role, tally: &Tally) -> bool
     ensures { result ≡ row18 role tally.now.closed }
 {
-    is_run(role) && !tally.is_closed(number_of(role))
+    role.is_run() && !tally.is_closed(role.number())
 }
 
 /// Row 19: executed RUN, or CLEAR, while a macro runs.
 fn starts_busy(flag: bool, role: Role, running: u8) -> bool
     ensures { result ≡ row19 flag role running }
 {
-    ((!flag && is_run(role)) || is_clear(role)) && running != NONE
+    ((!flag && role.is_run()) || role.is_clear()) && running != NONE
 }
 
 /// Rows 16 to 19, in their order.

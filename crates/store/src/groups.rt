@@ -1,5 +1,6 @@
-// The group of one second of a macro, collected without writing the macro out: the walk over its entries follows a RUN where it must and passes it
-// whole where its seconds end before the one that is looked for. The macro number falls at each call, and the pool's words are only lent.
+//! The group of one second of a macro, collected without writing the macro out: the walk over its entries follows a RUN where it must and passes it
+//! whole where its seconds end before the one that is looked for. The macro number falls at each call, and the pool's words are only lent.
+//! Rules: "One second", "The written-out list".
 ghost use Rattle.std.specs.Prelude.{min, ◌≡◌, [], true, false, length};
 ghost use Rattle.store.specs.Words.{command_for};
 ghost use Rattle.store.specs.WrittenOut.{items_of, flat};
@@ -15,14 +16,15 @@ use super::tally::Tally;
 use super::{GROUP, TOO_LONG};
 use wire::{Form, Kind};
 
-// What a second handed over: the words of its entries in order, as the pool has them, and how many entries they are. Zeros stand behind them.
+/// What a second handed over: the words of its entries in order, as the pool has them, and how many entries they are, up to 64. Zeros stand behind them.
+// Open fields, the count beside the words: callers lend the words alone (`handed_at`), and a count above 64 is answered too (`group_size`).
 #[derive(Clone, Copy)]
 pub struct Group {
     pub words: [u32; 192],
     pub count: u8,
 }
 
-// What the walk does at an entry: it takes it, waits, or follows it into a macro.
+/// What the walk does at an entry: it takes it, waits, or follows it into a macro.
 #[derive(Clone, Copy)]
 enum Turn {
     Takes,
@@ -30,7 +32,8 @@ enum Turn {
     Follows(u8),
 }
 
-// Where the walk stands: the seconds still to pass, the entries taken so far, and whether the second looked for is closed.
+/// Where the walk stands: the seconds still to pass, the entries taken so far, and whether the second looked for is closed.
+// `done` beside the numbers and no Option: a walk that is done is asked for its count (`cursor_of`).
 #[derive(Clone, Copy)]
 struct Spot {
     left: u16,
@@ -39,7 +42,8 @@ struct Spot {
 }
 
 impl Group {
-    // A group without entries.
+    /// A group without entries.
+    #[tactic(auto, unfolding(crate::specs::Effects::group_words))]
     pub fn none() -> Group
         ensures { result ≡ group_of [] }
     {
@@ -50,14 +54,14 @@ impl Group {
     }
 }
 
-// How many entries a group of this count has: no more than there are places.
+/// How many entries a group of this count has: no more than there are places.
 pub fn group_size(count: u8) -> usize
     ensures { result ≡ min 64 count }
 {
     (count as usize).min(GROUP)
 }
 
-// The kind that a form and two arguments say; out of range they are no command.
+/// The kind that a form and two arguments say; out of range they are no command.
 fn kind_as(form: Form, first: u32, second: u32) -> Kind
     ensures { result ≡ (command_for (Some (form, 0)) true first second).kind }
 {
@@ -67,7 +71,7 @@ fn kind_as(form: Form, first: u32, second: u32) -> Kind
     wire::kind_of(form, first, second)
 }
 
-// The same; in each arm the form is a constant.
+/// The same; in each arm the form is a constant.
 fn kind_by(form: Form, first: u32, second: u32) -> Kind
     ensures { result ≡ (command_for (Some (form, 0)) true first second).kind }
 {
@@ -90,7 +94,7 @@ fn kind_by(form: Form, first: u32, second: u32) -> Kind
     }
 }
 
-// The kind that an entry's words say.
+/// The kind that an entry's words say.
 fn kind_in(entry: Entry) -> Kind
     ensures { result ≡ (command_in entry).kind }
 {
@@ -100,6 +104,7 @@ fn kind_in(entry: Entry) -> Kind
     }
 }
 
+/// The kind of entry i of a group's words; power off past the last place.
 fn kind_at(words: &[u32], i: usize) -> Kind
     requires { length words.now ≡ 192 }
     ensures { result ≡ kind_at words.now i }
@@ -111,14 +116,14 @@ fn kind_at(words: &[u32], i: usize) -> Kind
     }
 }
 
-// The kind of entry i, from 0, of a group's words; there are GROUP places.
+/// The kind of entry i, from 0, of a group's words; there are GROUP places, and past them it is power off.
 pub fn handed_at(words: &[u32; 192], i: usize) -> Kind
     ensures { result ≡ kind_at words.now i }
 {
     kind_at(words, i)
 }
 
-// Is a span told whole, and over before so many seconds have passed?
+/// Is a span told whole, and over before so many seconds have passed?
 fn is_over(span: Span, left: u16) -> bool
     ensures { result ≡ over span left }
 {
@@ -129,7 +134,7 @@ fn is_over(span: Span, left: u16) -> bool
     }
 }
 
-// What the walk does at a RUN in macro m: it follows it, unless its seconds are over before the one looked for, or it adds nothing.
+/// What the walk does at a RUN in macro m: it follows it, unless its seconds are over before the one looked for, or it adds nothing.
 fn run_turn(target: u8, tally: &Tally, m: u8, left: u16) -> Turn
     ensures { result ≡ turn_in tally.now.closed tally.now.spans m left (Beat.Run target) }
 {
@@ -144,7 +149,7 @@ fn run_turn(target: u8, tally: &Tally, m: u8, left: u16) -> Turn
     }
 }
 
-// What the walk does at an entry of macro m.
+/// What the walk does at an entry of macro m.
 fn turn_in(beat: Beat, tally: &Tally, m: u8, left: u16) -> Turn
     ensures { result ≡ turn_in tally.now.closed tally.now.spans m left beat }
 {
@@ -155,7 +160,7 @@ fn turn_in(beat: Beat, tally: &Tally, m: u8, left: u16) -> Turn
     }
 }
 
-// An entry: it is taken in its second, as long as there is a place.
+/// An entry: it is taken in its second, as long as there is a place.
 fn taken(spot: Spot, group: &mut [u32], entry: Entry) -> Spot
     requires { (length group.old ≡ 192) × (spot.done ≡ false) }
     ensures { cursor_of result group.new ≡ steps.taken (cursor_of spot group.old) (words_in entry) }
@@ -177,7 +182,7 @@ fn taken(spot: Spot, group: &mut [u32], entry: Entry) -> Spot
     }
 }
 
-// A WAIT: its seconds pass, or it closes the second looked for.
+/// A WAIT: its seconds pass, or it closes the second looked for.
 fn waited(spot: Spot, seconds: u16) -> Spot
     requires { spot.done ≡ false }
     ensures { Waits spot seconds result }
@@ -189,7 +194,8 @@ fn waited(spot: Spot, seconds: u16) -> Spot
     Spot { done: true, ..spot }
 }
 
-// Walks over macro m from a spot on, by a tally that has the spans, and puts the entries that belong to the second looked for into the group.
+/// Walks over macro m from a spot on, by a tally that has the spans, and puts the entries that belong to the second looked for into the group.
+// By recursion over the macro numbers, a rule of the project; in a loop, since a closure is no place for that call, which changes spot and group.
 fn collect(words: &[u32], tally: &Tally, m: u8, spot: Spot, group: &mut [u32]) -> Spot
     requires words_len { length words.now ≡ 576 }
     requires walked { Walked (store_of words.now tally.now) m tally.now.spans group.old }
@@ -218,7 +224,7 @@ fn collect(words: &[u32], tally: &Tally, m: u8, spot: Spot, group: &mut [u32]) -
     spot
 }
 
-// The group that is due in macro m when so many of its seconds are left, by a tally that has the spans.
+/// The group that is due in macro m when so many of its seconds are left, by a tally that has the spans.
 pub(crate) fn group_due(words: &[u32], tally: &Tally, m: u8, left: u16) -> Group
     requires words_len { length words.now ≡ 576 }
     requires due { Due (store_of words.now tally.now) m tally.now.spans }

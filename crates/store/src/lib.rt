@@ -1,5 +1,7 @@
-// The macro store: what each macro holds, which is open or runs, codes 11 to 19 and 25, the written-out list of a macro and its seconds.
-// Every public function is total: a store that no command sequence can reach is answered too, and nothing runs on.
+//! The macro store: what each macro holds, which is open or runs, codes 11 to 19 and 25, the written-out list of a macro and its seconds.
+//! Every public function is total: a store that no command sequence can reach is answered too, and nothing runs on.
+//! Macros have the numbers 0 to 7, and 255 stands for none; times are whole seconds. State goes in by value, and the next one is handed back: a rule of the
+//! project. Rules: "Limits", "Fresh", "One second", "The written-out list", "Sound states".
 #![tactic(auto)]
 
 ghost use Rattle.std.specs.Prelude.{◌≡◌, cond, eqb};
@@ -25,23 +27,33 @@ pub use spans::Span;
 pub use tally::{Survey, Tally, keep};
 use words::Code;
 
-// How many macros there are, and how many entries they share.
+/// How many macros there are.
 pub const MACROS: usize = 8;
 
+/// How many entries they share.
 pub const ENTRIES: usize = 192;
 
-// The number that stands for no macro.
+/// The number that stands for no macro.
+// No Option: it stands in the open fields of `Store` and `Tally`.
 const NONE: u8 = 255;
-// The longest a macro runs, in seconds, and the length that every longer one is told as.
+
+/// The longest a macro runs, in seconds.
 const LONGEST: u16 = 600;
 
+/// The length that every longer one is told as.
+// A number and no case of an enum: it is added and compared as the others are (`min 601` of specs/).
 const TOO_LONG: u16 = 601;
-// The most entries that one second has, and the number that every larger one is told as.
+
+/// The most entries that one second has.
 pub const GROUP: usize = 64;
 
+/// The number that every larger one is told as.
+// A number as TOO_LONG is, and for its reason (`min 65`).
 const TOO_MANY: u8 = 65;
 
-// An open or a closed macro m has `counts[m]` entries. All entries lie in one pool, three words to each (pool.rt).
+/// All entries in one pool, three words to each; of each macro how many entries it counts, which it has while it is open or closed, and whether it is
+/// closed; the macro that is open and the one that runs, 0 to 7 or 255, and the running one's seconds left, up to 600. Rules: "Fresh", "Sound states".
+// Open fields, arrays side by side and 255 for none: tests set them to unsound values, and `survey` and theorems answer for these.
 #[derive(Clone, Copy)]
 pub struct Store {
     pub pool: [u32; 576],
@@ -74,7 +86,7 @@ impl Code for Unsound {
     }
 }
 
-// The macro that runs on with so many seconds left; none after the last one.
+/// The macro that runs on with so many seconds left; none after the last one.
 fn still_running(running: u8, left: u16) -> u8
     ensures { result ≡ cond (eqb left 0) 255 running }
 {
@@ -82,6 +94,7 @@ fn still_running(running: u8, left: u16) -> u8
 }
 
 impl Store {
+    /// A fresh store: nothing is open, closed or running, and the pool is all zeros. Rules: "Fresh".
     pub fn fresh() -> Store
         ensures { result ≡ fresh_store }
     {
@@ -95,10 +108,11 @@ impl Store {
         }
     }
 
-    // A store from its pool and its tally.
+    /// A store from its pool and its tally; the spans are left out.
     pub fn of_parts(pool: [u32; 576], tally: Tally) -> Store
         ensures { result ≡ store_of pool tally }
     {
+        // Taken apart first: a field that is an array cannot be taken straight into a literal.
         let Tally {
             counts,
             closed,
@@ -117,10 +131,11 @@ impl Store {
         }
     }
 
-    // The store's numbers and marks, as a tally whose spans are not worked out.
+    /// The store's numbers and marks, as a tally whose spans are not worked out.
     pub fn bare(self) -> Tally
         ensures { result ≡ bare_of self }
     {
+        // Taken apart first, as in `of_parts`.
         let Store {
             counts,
             closed,
@@ -132,7 +147,7 @@ impl Store {
         Tally {
             counts,
             closed,
-            spans: spans::no_spans(),
+            spans: [Span::default(); 8],
             opened,
             running,
             left,
@@ -140,7 +155,8 @@ impl Store {
     }
 }
 
-// The store's part of a sound state, and its tally; the spans are worked out once for both. The spans that come with the tally are not asked.
+/// Whether the store that these two are is sound, and its tally; the spans are worked out once for both. The spans that come with the tally are not asked.
+/// Rules: "Sound states".
 pub fn survey(pool: &[u32; 576], tally: Tally) -> Survey
     ensures { result ≡ survey_of (store_of pool.now tally) }
 {
@@ -151,11 +167,13 @@ pub fn survey(pool: &[u32; 576], tally: Tally) -> Survey
     Survey { sound, tally }
 }
 
-/// The second of the two things that a second does: the running macro's next group is handed over, and one second less is left.
+/// The second of the two things that a second does: the running macro's next group is handed over, and one second less is left. With no macro running the
+/// group is empty. Rules: "One second".
 ///
 /// # Errors
 ///
 /// `Unsound` (27) where the store is not sound; it stays as it is then, and nothing is handed over.
+#[tactic(auto, unfolding(crate::specs::SecondSteps::stepped_of))]
 pub fn second(pool: &[u32; 576], tally: Tally) -> Result<Step, Unsound>
     ensures { result ≡ stepped_of (store_of pool.now tally) }
 {
@@ -183,7 +201,7 @@ pub fn second(pool: &[u32; 576], tally: Tally) -> Result<Step, Unsound>
     })
 }
 
-// The closed macros as a byte, bit m for macro m.
+/// The closed macros as a byte, bit m for macro m.
 pub fn marks_of(closed: [bool; 8]) -> u8
     ensures { result ≡ marks_of closed }
 {

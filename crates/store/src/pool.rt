@@ -11,10 +11,10 @@ use super::tally::Tally;
 use super::{ENTRIES, MACROS};
 use wire::{Command, Form};
 
-// The words of an entry: the opcode with the flag as its lowest bit, and the two arguments.
+/// The words of an entry: the opcode with the flag as its lowest bit, and the two arguments.
 pub(crate) const WORDS: usize = 3;
 
-// The words of one entry.
+/// The words of one entry.
 #[derive(Clone, Copy)]
 pub(crate) struct Entry {
     pub head: u32,
@@ -22,7 +22,7 @@ pub(crate) struct Entry {
     pub second: u32,
 }
 
-// Where entries that start here end, and no further than the pool.
+/// Where entries that start here end, and no further than the pool.
 pub(crate) fn end_of(start: usize, size: usize) -> usize
     requires { size ≤ 255 }
     ensures { result ≡ min 192 (start + size) }
@@ -30,14 +30,15 @@ pub(crate) fn end_of(start: usize, size: usize) -> usize
     start.saturating_add(size).min(ENTRIES)
 }
 
-// What the first word of an entry stands for: it may be too large for an opcode and its flag.
+/// What the first word of an entry stands for: it may be too large for an opcode and its flag.
 pub(crate) fn found_in(head: u32) -> Option<(Form, u16)>
     ensures { result ≡ rule_of (head / 2) }
 {
     wire::rule_of(u16::try_from(head / 2).ok()?)
 }
 
-// Entry i of the pool, or of a group, by its words.
+/// Entry i of the pool, or of a group, by its words.
+#[tactic(auto, using(crate::proofs::Entries::commands_at))]
 pub(crate) fn entry_at(words: &[u32], i: usize) -> Entry
     requires { (i < 192) × (i * 3 + 3 ≤ length words.now) }
     ensures result_value { command_in result ≡ get_or (commands_in words.now) i no_command }
@@ -51,7 +52,7 @@ pub(crate) fn entry_at(words: &[u32], i: usize) -> Entry
     }
 }
 
-// The first word of an entry.
+/// The first word of an entry.
 fn head_of(form: Form, flag: bool) -> u32
     ensures { result ≡ head_of form flag }
 {
@@ -59,7 +60,8 @@ fn head_of(form: Form, flag: bool) -> u32
     u32::from(row.opcode) * 2 + u32::from(flag)
 }
 
-// Moves the words from `from` to `to` up by one entry, from the top down.
+/// Moves the words from `from` to `to` up by one entry, from the top down.
+#[tactic(auto, using(crate::proofs::Moves::raised_whole))]
 fn raise(words: &mut [u32], from: usize, to: usize)
     requires { (length words.old ≡ 576) × (from ≤ to) × (to ≤ 573) }
     ensures { words.new ≡ raised words.old from to }
@@ -67,7 +69,8 @@ fn raise(words: &mut [u32], from: usize, to: usize)
     words.copy_within(from..to, from + WORDS);
 }
 
-// Puts an entry in at word `from`; what lies from there to `to` moves up.
+/// Puts an entry in at word `from`; what lies from there to `to` moves up.
+#[tactic(auto, using(crate::proofs::Moves::gap_filled))]
 fn insert(words: &mut [u32], from: usize, to: usize, command: Command)
     requires { (length words.old ≡ 576) × (from ≤ to) × (to ≤ 573) }
     ensures { words.new ≡ inserted words.old from to command }

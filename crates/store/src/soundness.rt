@@ -1,5 +1,5 @@
-// The store's part of a sound state: the entries in use, then every macro against its rules, then the running one.
-// Each entry is visited once; the table of spans comes from the caller.
+//! The store's part of a sound state: the entries in use, then every macro against its rules, then the running one.
+//! Each entry is visited once; the table of spans comes from the caller. Rules: "Sound states".
 ghost use Rattle.std.specs.Prelude.{◌≤◌, ◌≡◌, true, false, ◌&&◌, ◌||◌, length, get_or, leb, eqb};
 ghost use Rattle.words.specs.Codes.{first_of};
 ghost use Rattle.wire.specs.Judge.{row_checks};
@@ -15,14 +15,15 @@ use super::tally::Tally;
 use super::{ENTRIES, GROUP, LONGEST, MACROS, NONE};
 use wire::{Form, Row};
 
-// Do a flag of 1 and these two numbers pass 8 to 10, by a row of the table?
+/// Do a flag of 1 and these two numbers pass 8 to 10, by a row of the table?
 fn passes(row: Row, first: u32, second: u32) -> bool
     ensures { result ≡ eqb (first_of (row_checks row true first second)) 0 }
 {
     wire::judge_by(row, true, first, second).is_ok()
 }
 
-// A RUN in macro m passes 8 and, its target being a closed macro with a smaller number, 17 and 18.
+/// A RUN in macro m passes 8 and, its target being a closed macro with a smaller number, 17 and 18.
+#[tactic(auto, using(crate::proofs::SoundLaws::run_leads))]
 fn run_holds(first: u32, second: u32, tally: &Tally, m: u8) -> bool
     ensures { result ≡ form_holds tally.now.closed m Form.Run first second }
 {
@@ -30,7 +31,8 @@ fn run_holds(first: u32, second: u32, tally: &Tally, m: u8) -> bool
     passes(wire::row_of(Form::Run), first, second) && tally.leads(m, (first % 256) as u8)
 }
 
-// An entry of macro m with flag 1, whose form is known, passes 8 to 10 and, for a RUN, 17 and 18. In each arm the row is a constant.
+/// An entry of macro m with flag 1, whose form is known, passes 8 to 10 and, for a RUN, 17 and 18. In each arm the row is a constant.
+#[tactic(auto, using(crate::proofs::SoundLaws::form_plain))]
 fn form_holds(form: Form, first: u32, second: u32, tally: &Tally, m: u8) -> bool
     ensures { result ≡ form_holds tally.now.closed m form first second }
 {
@@ -53,7 +55,7 @@ fn form_holds(form: Form, first: u32, second: u32, tally: &Tally, m: u8) -> bool
     }
 }
 
-// An entry of macro m is a flag-1 command that passes 8 to 10 and, for a RUN, 17 and 18.
+/// An entry of macro m is a flag-1 command that passes 8 to 10 and, for a RUN, 17 and 18.
 fn entry_holds(entry: Entry, tally: &Tally, m: u8) -> bool
     ensures { result ≡ entry_holds tally.now.closed m (command_in entry) }
 {
@@ -67,7 +69,8 @@ fn entry_holds(entry: Entry, tally: &Tally, m: u8) -> bool
     }
 }
 
-// Do all entries of macro m hold, which start here and are so many?
+/// Do all entries of macro m hold, which start here and are so many?
+// A loop: `(start..end).all(..)` was tried, and not proved.
 fn entries_hold(words: &[u32], start: usize, size: usize, tally: &Tally, m: u8) -> bool
     requires { (length words.now ≡ 576) × (size ≤ 255) }
     ensures { result ≡ entries_by tally.now.closed m (between words.now start size) }
@@ -81,7 +84,7 @@ fn entries_hold(words: &[u32], start: usize, size: usize, tally: &Tally, m: u8) 
     true
 }
 
-// A closed macro has an entry at least, runs 1 to LONGEST seconds, and has at most GROUP entries in each.
+/// A closed macro has an entry at least, runs 1 to LONGEST seconds, and has at most GROUP entries in each.
 fn closed_fits(count: u8, span: Span) -> bool
     ensures { result ≡ (leb 1 count && leb 1 (length_of span) && leb (length_of span) 600 && leb span.most 64) }
 {
@@ -89,7 +92,7 @@ fn closed_fits(count: u8, span: Span) -> bool
     1 <= count && 1 <= length && length <= LONGEST && span.most as usize <= GROUP
 }
 
-// Does macro m hold, whose entries start here, by a tally that has the spans? One that is neither closed nor open is not judged.
+/// Does macro m hold, whose entries start here, by a tally that has the spans? One that is neither closed nor open is not judged.
 fn macro_holds(words: &[u32], tally: &Tally, start: usize, size: usize, m: u8) -> bool
     requires { (length words.now ≡ 576) × (size ≤ 255) }
     ensures { result ≡ macro_by tally.now m (between words.now start size) }
@@ -101,7 +104,7 @@ fn macro_holds(words: &[u32], tally: &Tally, start: usize, size: usize, m: u8) -
     }
 }
 
-// A running macro is closed, with 1 to its length seconds left.
+/// A running macro is closed, with 1 to its length seconds left.
 fn running_holds(tally: &Tally) -> bool
     ensures { result ≡ (eqb tally.now.running 255 || (get_or tally.now.closed tally.now.running false && leb 1 tally.now.left && leb tally.now.left (length_of (get_or tally.now.spans tally.now.running no_span)))) }
 {
@@ -111,7 +114,8 @@ fn running_holds(tally: &Tally) -> bool
             && tally.left <= seconds_of(tally.span(tally.running)))
 }
 
-// The whole store, by a tally that has the spans, and its entries in use.
+/// The whole store, by a tally that has the spans, and its entries in use.
+// A loop and no `all`: where a macro starts goes along, which a closure would have to change.
 pub(crate) fn holds(words: &[u32], tally: &Tally, used: usize) -> bool
     requires words_len { length words.now ≡ 576 }
     requires spans_value { (tally.now.spans ≡ spans_to (store_of words.now tally.now) 8) × (used ≡ used_by tally.now) }

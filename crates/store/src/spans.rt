@@ -1,6 +1,7 @@
-// What a macro spans, without writing it out: a table over the macros, each by its entries and the spans of those below it.
-// The macro number falls at each call, and the pool's words are only lent, so eight calls visit at most 192 entries, on every store.
-ghost use Rattle.std.specs.Prelude.{◌+◌, ◌≤◌, min, ◌≡◌, length, get_or, replicate};
+//! What a macro spans, without writing it out: a table over the macros, each by its entries and the spans of those below it.
+//! The macro number falls at each call, and the pool's words are only lent, so eight calls visit at most 192 entries, on every store.
+//! Rules: "The written-out list".
+ghost use Rattle.std.specs.Prelude.{◌+◌, ◌≤◌, min, ◌≡◌, length};
 ghost use Rattle.store.specs.Pool.{between};
 ghost use Rattle.store.specs.PoolSteps.{command_in};
 ghost use Rattle.store.specs.SpanSteps.{no_span, entries_span, wait_span, grown, joined_of, behind, length_of, span_in, spans_from, measured_to};
@@ -32,35 +33,36 @@ pub struct Span {
     pub waited: bool,
 }
 
-// The spans of the macros below a number, and where the next one starts in the pool.
+/// The spans of the macros below a number, and where the next one starts in the pool, in entries.
+// A struct and no pair: the meaning names its parts (`measured_to`).
 #[derive(Drop)]
 pub(crate) struct Measured {
     pub spans: [Span; 8],
     pub end: usize,
 }
 
-// A sum of seconds, told up to TOO_LONG.
+/// A sum of seconds, told up to TOO_LONG.
 fn added(a: u16, b: u16) -> u16
     ensures { result ≡ min 601 (a + b) }
 {
     a.saturating_add(b).min(TOO_LONG)
 }
 
-// A sum of entries, told up to TOO_MANY.
+/// A sum of entries, told up to TOO_MANY.
 fn together(a: u8, b: u8) -> u8
     ensures { result ≡ min 65 (a + b) }
 {
     a.saturating_add(b).min(TOO_MANY)
 }
 
-// The entries at an end of two lists one after another: those of the outer one, and of the other one too where the outer one has no WAIT.
+/// The entries at an end of two lists one after another: those of the outer one, and of the other one too where the outer one has no WAIT.
 fn grow(waited: bool, kept: u8, more: u8) -> u8
     ensures { result ≡ min 65 (grown waited kept more) }
 {
     together(kept, if waited { 0 } else { more })
 }
 
-// The span of two lists one after another.
+/// The span of two lists one after another.
 fn joined(a: Span, b: Span) -> Span
     ensures { result ≡ joined_of a b }
 {
@@ -74,20 +76,7 @@ fn joined(a: Span, b: Span) -> Span
     }
 }
 
-// The span of a list without entries.
-pub(crate) fn no_span() -> Span
-    ensures { result ≡ no_span }
-{
-    Span::default()
-}
-
-pub(crate) fn no_spans() -> [Span; 8]
-    ensures { result ≡ replicate 8 no_span }
-{
-    [Span::default(); 8]
-}
-
-// So many entries without a WAIT.
+/// The span of so many entries without a WAIT.
 fn entries_span(count: u8) -> Span
     ensures { result ≡ entries_span count }
 {
@@ -99,6 +88,7 @@ fn entries_span(count: u8) -> Span
     }
 }
 
+/// The span of a WAIT alone.
 fn wait_span(seconds: u16) -> Span
     ensures { result ≡ wait_span seconds }
 {
@@ -109,13 +99,14 @@ fn wait_span(seconds: u16) -> Span
     }
 }
 
-// The seconds of a span.
+/// The seconds of a span, up to 601.
 pub(crate) fn seconds_of(span: Span) -> u16
     ensures { result ≡ length_of span }
 {
     added(span.waits, if 0 < span.last { 1 } else { 0 })
 }
 
+/// What an entry of a role is to the seconds of its macro.
 pub(crate) fn beat_of(role: Role) -> Beat
     ensures { result ≡ beat_of role }
 {
@@ -126,7 +117,7 @@ pub(crate) fn beat_of(role: Role) -> Beat
     }
 }
 
-// A RUN by its two arguments, of which a range test leaves eight bits and no more. Out of range they are no command, which is an entry as most are.
+/// A RUN by its two arguments, of which a range test leaves eight bits and no more. Out of range they are no command, which is an entry as most are.
 fn run_beat(first: u32, second: u32) -> Beat
     ensures { result ≡ beat_as Form.Run first second }
 {
@@ -136,7 +127,7 @@ fn run_beat(first: u32, second: u32) -> Beat
     Beat::Run((first % 256) as u8)
 }
 
-// The same for a WAIT, whose seconds have 16 bits.
+/// The same for a WAIT, whose seconds have 16 bits.
 fn wait_beat(first: u32, second: u32) -> Beat
     ensures { result ≡ beat_as Form.Wait first second }
 {
@@ -146,7 +137,8 @@ fn wait_beat(first: u32, second: u32) -> Beat
     Beat::Wait((first % 65536) as u16)
 }
 
-// An entry by its words: most entries are told by two comparisons.
+/// An entry by its words: most entries are told by two comparisons.
+// No match: the opcodes stand in wire's table alone, and a pattern cannot ask it.
 pub(crate) fn beat_in(entry: Entry) -> Beat
     ensures { result ≡ beat_in (command_in entry) }
 {
@@ -162,18 +154,18 @@ pub(crate) fn beat_in(entry: Entry) -> Beat
     Beat::Entry
 }
 
-// The span of a RUN in macro m.
+/// The span of a RUN in macro m.
 fn run_span(tally: &Tally, m: u8, target: u8) -> Span
     ensures { result ≡ span_in tally.now.closed tally.now.spans m (Beat.Run target) }
 {
     if tally.leads(m, target) {
         tally.span(target)
     } else {
-        no_span()
+        Span::default()
     }
 }
 
-// The span of a list and so many entries behind it.
+/// The span of a list and so many entries behind it.
 fn with_entries(sum: Span, count: u8) -> Span
     ensures { result ≡ behind sum count }
 {
@@ -184,7 +176,7 @@ fn with_entries(sum: Span, count: u8) -> Span
     }
 }
 
-// The span of a list and an entry of macro m behind it.
+/// The span of a list and an entry of macro m behind it.
 pub(crate) fn joined_with(sum: Span, beat: Beat, tally: &Tally, m: u8) -> Span
     ensures { result ≡ joined_of sum (span_in tally.now.closed tally.now.spans m beat) }
 {
@@ -195,14 +187,15 @@ pub(crate) fn joined_with(sum: Span, beat: Beat, tally: &Tally, m: u8) -> Span
     }
 }
 
-// The span of the entries of macro m, which start here and are so many, by the spans of the macros below it. Entries without a WAIT or a RUN between
-// them are only counted, and joined together.
+/// The span of the entries of macro m, which start here and are so many, by the spans of the macros below it. Entries without a WAIT or a RUN between
+/// them are only counted, and joined together.
+// A loop and no fold: sum and count go along, and a fold over the pair is no plainer.
 fn span_by(words: &[u32], start: usize, size: usize, tally: &Tally, m: u8) -> Span
     requires { (length words.now ≡ 576) × (size ≤ 255) }
     ensures { result ≡ spans_from tally.now.closed tally.now.spans m no_span (between words.now start size) }
 {
     let end = end_of(start, size);
-    let mut sum = no_span();
+    let mut sum = Span::default();
     let mut count: u8 = 0;
     for i in start..end {
         match beat_in(entry_at(words, i)) {
@@ -222,14 +215,16 @@ fn span_by(words: &[u32], start: usize, size: usize, tally: &Tally, m: u8) -> Sp
     with_entries(sum, count)
 }
 
-// The spans of the macros below n, each by those below it.
+/// The spans of the macros below n, each by those below it.
+// By recursion over the macro numbers, a rule of the project.
+#[tactic(auto, unfolding(crate::specs::SpanSteps::spans_to, crate::specs::Pool::start_of))]
 pub(crate) fn spans_below(words: &[u32], tally: Tally, n: u8) -> Measured
     requires { (length words.now ≡ 576) × (n ≤ 8) }
     ensures { result ≡ measured_to (store_of words.now tally) n }
 {
     if n == 0 {
         return Measured {
-            spans: no_spans(),
+            spans: [Span::default(); 8],
             end: 0,
         };
     }

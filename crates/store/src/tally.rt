@@ -1,5 +1,5 @@
-// A tally: the store without its pool, and what each macro spans. It is all that codes 11 to 19 and 25 ask, so a run of lists judges and carries out
-// its commands by a tally, and the pool stays where it is.
+//! A tally: the store without its pool, and what each macro spans. It is all that codes 11 to 19 and 25 ask, so a run of lists judges and carries out
+//! its commands by a tally, and the pool stays where it is. Rules: "Codes, in the order they are tried", "Fresh".
 ghost use Rattle.std.specs.Prelude.{◌≡◌, ◌≤◌, false, get_or};
 ghost use Rattle.store.specs.Pool.{in_use, size_of, start_of};
 ghost use Rattle.store.specs.SpanSteps.{no_span, leads};
@@ -8,11 +8,13 @@ ghost use Rattle.store.specs.TallySteps.{used_by, free_by, takes_by, passes_by, 
 
 use super::arrays::put;
 use super::checks::Denial;
-use super::roles::{Role, is_plain, role_of};
+use super::roles::Role;
 use super::spans::{Span, beat_of, joined_with, seconds_of};
 use super::{ENTRIES, MACROS, NONE, checks, pool};
 use wire::Command;
 
+/// The numbers and marks of a store, and what each macro spans, up to 601 seconds and 65 entries.
+// Open fields, arrays side by side and 255 for none, as in `Store` and for its reason.
 #[derive(Clone, Copy)]
 pub struct Tally {
     pub counts: [u8; 8],
@@ -23,18 +25,19 @@ pub struct Tally {
     pub left: u16,
 }
 
-// What a survey of a store finds: whether it is sound, and its tally.
+/// What a survey of a store finds: whether it is sound, and its tally.
+// `sound` beside the tally and no Result: the tally of an unsound store is told too (`survey_of`).
 #[derive(Clone, Copy)]
 pub struct Survey {
     pub sound: bool,
     pub tally: Tally,
 }
 
-// A plain command that is executed: the store neither refuses nor keeps it.
+/// A plain command that is executed: the store neither refuses nor keeps it.
 fn passes_by(flag: bool, role: Role) -> bool
     ensures { result ≡ passes_by flag role }
 {
-    !flag && is_plain(role)
+    !flag && role.is_plain()
 }
 
 impl Tally {
@@ -45,6 +48,7 @@ impl Tally {
         self.counts.get(m as usize).copied().unwrap_or(0)
     }
 
+    /// Is macro m closed? A number that no macro has is not.
     pub(crate) fn is_closed(&self, m: u8) -> bool
         ensures { result ≡ get_or self.now.closed m false }
     {
@@ -59,6 +63,7 @@ impl Tally {
     }
 
     /// Is macro m open or closed?
+    // `opened == m` and no Option: it is asked of every number, and of 255 it says yes while none is open (`in_use`).
     fn is_in_use(&self, m: u8) -> bool
         ensures { result ≡ in_use self.now.closed self.now.opened m }
     {
@@ -66,6 +71,7 @@ impl Tally {
     }
 
     /// The entries that macro m has in the pool.
+    #[tactic(auto, unfolding(crate::specs::Pool::size_of))]
     pub(crate) fn size(&self, m: u8) -> usize
         ensures { (result ≡ size_of self.now.counts self.now.closed self.now.opened m) × (result ≤ 255) }
     {
@@ -101,12 +107,18 @@ impl Tally {
         target < m && self.is_closed(target)
     }
 
-    // Codes 11 to 19 and 25, on a command that passed 8 to 10.
+    /// Is a command allowed that passed codes 1 to 10? Rules: "Codes, in the order they are tried".
+    ///
+    /// # Errors
+    ///
+    /// The first `Denial` that holds, of codes 11 to 15, 25 and 16 to 19 in this order.
+    // By value, as `free` and `applied`: a rule of the project for state.
+    #[tactic(auto, using(crate::proofs::Laws::passed_by), unfolding(crate::specs::TallySteps::tally_code))]
     pub fn permits(self, command: Command) -> Result<(), Denial>
         ensures { told_permit result ≡ tally_code self command }
     {
         let flag = command.flag;
-        let role = role_of(command.kind);
+        let role = Role::of(command.kind);
         if passes_by(flag, role) {
             return Ok(());
         }
@@ -134,7 +146,7 @@ impl Tally {
         checks::permits_entry(flag, role, &self)
     }
 
-    // The entries that are free: the appends that an open macro would still take.
+    /// The entries that are free, 0 to 192: the appends that an open macro would still take.
     pub fn free(self) -> u8
         ensures { result ≡ free_by self }
     {
@@ -164,6 +176,7 @@ impl Tally {
         next
     }
 
+    /// Macro m is open, and has no entries.
     fn opening(self, m: u8) -> Tally
         ensures { result ≡ executed_by self (Role.Open m) }
     {
@@ -173,6 +186,7 @@ impl Tally {
         next
     }
 
+    /// The open macro is closed.
     fn closing(self) -> Tally
         ensures { result ≡ executed_by self Role.Close }
     {
@@ -184,6 +198,7 @@ impl Tally {
         next
     }
 
+    /// Macro m runs, with all its seconds left.
     fn starting(self, m: u8) -> Tally
         ensures { result ≡ executed_by self (Role.Run m) }
     {
@@ -194,6 +209,7 @@ impl Tally {
         }
     }
 
+    /// The tally after a command that is executed.
     fn executed(self, role: Role) -> Tally
         ensures { result ≡ executed_by self role }
     {
@@ -216,12 +232,13 @@ impl Tally {
         }
     }
 
-    // The tally after an accepted command.
+    /// The tally after an accepted command: an appended one is an entry more, an executed one does what it says.
+    #[tactic(auto, using(crate::proofs::Laws::passed_by), unfolding(crate::specs::TallySteps::tally_after))]
     pub fn applied(self, command: Command) -> Tally
         ensures { result ≡ tally_after self command }
     {
         let flag = command.flag;
-        let role = role_of(command.kind);
+        let role = Role::of(command.kind);
         if passes_by(flag, role) {
             return self;
         }
@@ -233,7 +250,8 @@ impl Tally {
     }
 }
 
-// The pool after an accepted command: an appended one is put behind the open macro's last entry, and what lies behind moves up.
+/// The pool after an accepted command: an appended one is put behind the open macro's last entry, and what lies behind moves up. The tally is the one before
+/// the command. Where none is open, no entry is free or the command is executed, the pool stays as it was. Rules: "Fresh".
 pub fn keep(words: &mut [u32; 576], tally: Tally, command: Command)
     ensures { words.new ≡ pool_after words.old tally command }
 {

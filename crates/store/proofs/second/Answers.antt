@@ -1,37 +1,14 @@
 -- `store::second` meets its contract: a store that is not sound stays, and so does an idle one; otherwise one second less is left.
 use mathlib.Core.Path.{◌≡◌, refl, sym, ap, ◌∙◌}
 use borrow.Author.Rules.{rules}
-use borrow.Author.Tests.{eq-eqb, ne_eqb, not-true, not-false}
+use borrow.Author.Tests.{not-false}
 use Rattle.store.specs.declared.Store.{Store}
 use Rattle.store.specs.declared.tally.Survey.{Survey}
 use Rattle.store.specs.Sound.{store_sound}
 use Rattle.store.specs.TallySteps.{tally_of, store_of}
-use Rattle.store.specs.SecondSteps.{stepped_of}
 use Rattle.store.proofs.Clear.{sound_clear}
 use Rattle.store.proofs.SoundLaws.{running_due}
 use Rattle.store.proofs.second.Goals as goal
-
-pub returns-then-not-survey : goal.returns-then-not-survey
-unfolding stepped_of
-returns-then-not-survey c =
-    let handed_in : Store = store_of c.args.pool.now c.args.tally in
-    let sound_told : c.survey-survey.result.sound ≡ store_sound handed_in = ap (λ (r : Survey). r.sound) c.survey-survey.ensures in
-    rw (
-      ← sound_told,
-      not-true c.survey-survey.result.sound c.if-not-survey.true,
-    )
-
-pub returns-then-running : goal.returns-then-running
-unfolding stepped_of
-returns-then-running c =
-    let handed_in : Store = store_of c.args.pool.now c.args.tally in
-    let sound_told : c.survey-survey.result.sound ≡ store_sound handed_in = ap (λ (r : Survey). r.sound) c.survey-survey.ensures in
-    rw (
-      c.none-group.ensures,
-      ← sound_told,
-      not-false c.survey-survey.result.sound c.if-not-survey.false,
-      eq-eqb _ 255 c.if-running.true,
-    )
 
 pub group_due-group-requires-clause-due : goal.group_due-group-requires-clause-due
 group_due-group-requires-clause-due c =
@@ -42,19 +19,3 @@ group_due-group-requires-clause-due c =
     let sound = sym sound_told ∙ not-false c.survey-survey.result.sound c.if-not-survey.false in
     let busy = c.if-running.false in
     rw tally_told (running_due store _ (search rules) sound busy refl (sound_clear store (search rules) sound))
-
-pub returns : goal.returns
-unfolding stepped_of
-returns c =
-    let handed_in : Store = store_of c.args.pool.now c.args.tally in
-    let sound_told : c.survey-survey.result.sound ≡ store_sound handed_in = ap (λ (r : Survey). r.sound) c.survey-survey.ensures in
-    let tally_told : c.survey-survey.result.tally ≡ tally_of handed_in = ap (λ (r : Survey). r.tally) c.survey-survey.ensures in
-    rw (
-      ← sound_told,
-      not-false c.survey-survey.result.sound c.if-not-survey.false,
-      ne_eqb _ 255 c.if-running.false,
-      c.still_running.ensures,
-      c.saturating_sub-left.ensures,
-      c.group_due-group.ensures,
-      tally_told,
-    )

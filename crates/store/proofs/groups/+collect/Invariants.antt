@@ -1,4 +1,4 @@
--- `store::groups::collect` meets its contract: one law for each turn, and the macro number falls at each call.
+-- `store::groups::collect`: what the walk makes from entry i on is what it makes of the whole macro; the measure is the macro number.
 use Rattle.store.specs.TallySteps.{store_of}
 use Rattle.store.specs.GroupSteps.{cursor_of}
 use Rattle.store.proofs.Turns.{Walking}

@@ -1,11 +1,7 @@
--- `store::soundness::entries_hold` meets its contract. The loop's invariant: whether the entries from i on hold is whether all of them do.
-use Prim.Native.Nat.{◌+◌, ◌-◌}
-use mathlib.Core.Path.{◌≡◌, sym, ap, ◌∙◌}
-use mathlib.Core.List.{◌∷◌}
+-- `store::soundness::entries_hold` meets its contract: one law for an entry that holds, one for an entry that fails, one for the end.
+use mathlib.Core.Path.{sym, ap, ◌∙◌}
 use native.Mathlib.Omega.{arith}
 use borrow.Author.Tests.{not-true, not-false}
-use Rattle.store.specs.Pool.{between}
-use Rattle.store.specs.PoolSteps.{command_in}
 use Rattle.store.specs.Sound.{entry_holds}
 use Rattle.store.specs.TallySteps.{entries_by}
 use Rattle.store.proofs.Walk.{walk_start, walk_next, walk_end}
@@ -24,22 +20,18 @@ loop-i-init c =
 
 pub returns-then-not-entry_holds : goal.returns-then-not-entry_holds
 returns-then-not-entry_holds c =
-    let read : let words = c.args.words.now in let end = c.end_of-end.result in let i = c.loop-i.i in between words i (end - i) ≡ command_in c.entry_at.result ∷ between words (i + 1) (end - (i + 1)) = let args = c.args in
-    let at = c.loop-i in
-    walk_next args.words.now _ at.i _ at.invariant.walk c.loop-i-test.true c.entry_at.ensures.result_value in
     let args = c.args in
     let at = c.loop-i in
+    let read = walk_next args.words.now _ at.i _ at.invariant.walk c.loop-i-test.true c.entry_at.ensures.result_value in
     let judged = c.entry_holds in
     let fails = sym judged.ensures ∙ not-true judged.result (ap not c.if-not-entry_holds.true) in
     sym (all_fail (entry_holds args.tally.now.closed args.m) _ _ _ read fails) ∙ at.invariant.held
 
 pub loop-i-preserved : goal.loop-i-preserved
 loop-i-preserved c =
-    let read : let words = c.args.words.now in let end = c.end_of-end.result in let i = c.loop-i.i in between words i (end - i) ≡ command_in c.entry_at.result ∷ between words (i + 1) (end - (i + 1)) = let args = c.args in
-    let at = c.loop-i in
-    walk_next args.words.now _ at.i _ at.invariant.walk c.loop-i-test.true c.entry_at.ensures.result_value in
     let args = c.args in
     let at = c.loop-i in
+    let read = walk_next args.words.now _ at.i _ at.invariant.walk c.loop-i-test.true c.entry_at.ensures.result_value in
     let judged = c.entry_holds in
     let holds = sym judged.ensures ∙ not-false judged.result (ap not c.if-not-entry_holds.false) in
     record {

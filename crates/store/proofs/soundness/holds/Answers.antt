@@ -1,5 +1,4 @@
--- `store::soundness::holds` meets its contract. The loop's invariant: the macros below m hold. Where all do, the running one has at most
--- 600 seconds, so the table tells them as they are.
+-- `store::soundness::holds` meets its contract: a macro is judged by the table, and where all hold, so is the running one.
 use mathlib.Core.Path.{◌≡◌, refl, sym, ◌∙◌}
 use mathlib.Core.Bool.{true}
 use native.Mathlib.Omega.{arith}
@@ -36,29 +35,21 @@ loop-m-init c =
 
 pub returns-then-not-macro_holds : goal.returns-then-not-macro_holds
 returns-then-not-macro_holds c =
-    let judged : let args = c.args in c.macro_holds.result ≡ macro_holds (store_of args.words.now args.tally.now) c.loop-m.m = let args = c.args in
-    let at = c.loop-m in
-    let size = c.size-size in
-    let told = at.invariant.tells at.m (omega arith) in
-    macro_told args.words.now args.tally.now at.m at.start size.result _ told at.invariant.starts size.ensures.0
-    c.macro_holds.ensures in
     let args = c.args in
     let at = c.loop-m in
+    let told = at.invariant.tells at.m (omega arith) in
+    let judged = macro_told args.words.now args.tally.now at.m at.start _ _ told at.invariant.starts c.size-size.ensures.0 c.macro_holds.ensures in
     let fails = sym judged ∙ not-true c.macro_holds.result (ap not c.if-not-macro_holds.true) in
     sound_fails (store_of args.words.now args.tally.now) at.m (omega arith) fails
 
 pub loop-m-preserved : goal.loop-m-preserved
 loop-m-preserved c =
-    let judged : let args = c.args in c.macro_holds.result ≡ macro_holds (store_of args.words.now args.tally.now) c.loop-m.m = let args = c.args in
-    let at = c.loop-m in
-    let size = c.size-size in
-    let told = at.invariant.tells at.m (omega arith) in
-    macro_told args.words.now args.tally.now at.m at.start size.result _ told at.invariant.starts size.ensures.0
-    c.macro_holds.ensures in
     let args = c.args in
     let tally = args.tally.now in
     let at = c.loop-m in
     let size = c.size-size in
+    let told = at.invariant.tells at.m (omega arith) in
+    let judged = macro_told args.words.now args.tally.now at.m at.start _ _ told at.invariant.starts c.size-size.ensures.0 c.macro_holds.ensures in
     let holds = sym judged ∙ not-false c.macro_holds.result (ap not c.if-not-macro_holds.false) in
     record {
       whole = at.invariant.whole;

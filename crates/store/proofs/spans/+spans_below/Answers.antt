@@ -1,5 +1,4 @@
--- `store::spans::spans_below` meets its contract. The measure is the macro number: the call is at n - 1, and macro n - 1's span is worked out by the
--- table that it gives, and by where it says that the macro starts.
+-- `store::spans::spans_below` meets its contract: macro n - 1's span is worked out by the table of those below it, and by where they end.
 use Prim.Native.Nat.{ℕ, ◌-◌}
 use mathlib.Core.Path.{◌≡◌, refl, ap}
 use native.Mathlib.Omega.{arith}
@@ -9,13 +8,8 @@ use lib.ListN.{get_or}
 use borrow.Author.Rules.{rules}
 use Rattle.store.specs.Pool.{start_of}
 use Rattle.store.specs.TallySteps.{store_of}
-use Rattle.store.specs.SpanSteps.{spans_to}
 use Rattle.store.proofs.SpanTable.{start_small, measured_more}
 use Rattle.store.proofs.spans.+spans_below.Goals as goal
-
-pub returns-then-n-eq0 : goal.returns-then-n-eq0
-unfolding spans_to start_of
-returns-then-n-eq0 t c = rw (c.if-n-eq0.true, c.no_spans.ensures)
 
 pub overflow_add-result : goal.overflow_add-result
 overflow_add-result t c =

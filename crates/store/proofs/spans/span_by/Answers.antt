@@ -1,6 +1,8 @@
 -- `store::spans::span_by` meets its contract: an entry that is handed over is only counted, any other one joined.
-use mathlib.Core.Path.{sym, ◌∙◌}
+use mathlib.Core.Path.{◌≡◌, sym, ◌∙◌}
 use native.Mathlib.Omega.{arith}
+use borrow.Author.Rules.{rules}
+use Rattle.store.specs.SpanSteps.{no_span}
 use Rattle.store.proofs.SpanTable.{sum_start, sum_counted, sum_joined, sum_end}
 use Rattle.store.proofs.Walk.{walk_start, walk_next, walk_end}
 use Rattle.store.proofs.spans.span_by.Goals.{in-Entry, in-Wait, in-Run}
@@ -9,10 +11,11 @@ use Rattle.store.proofs.spans.span_by.Goals as goal
 pub loop-i-init : goal.loop-i-init
 loop-i-init c =
     let args = c.args in
+    let empty : c.default-sum.result ≡ no_span = search rules in
     let walked = walk_start args.words.now args.start args.size _ c.requires.0 c.end_of-end.ensures in
     record {
       walk = record { whole = c.requires.0; inside = omega arith };
-      summed = rw c.no_span-sum.ensures (sum_start args.tally.now.closed args.tally.now.spans args.m _ _ walked);
+      summed = rw empty (sum_start args.tally.now.closed args.tally.now.spans args.m _ _ walked);
     }
 
 pub loop-i-preserved : goal.loop-i-preserved

@@ -1,4 +1,4 @@
--- `store::spans::span_by` meets its contract: an entry that is handed over is only counted, any other one joined.
+-- `store::spans::span_by`: what is summed and counted so far, with the entries from i on, spans what all entries do.
 use Prim.Native.Nat.{ℕ, ◌-◌}
 use mathlib.Core.Path.{◌≡◌}
 use mathlib.Core.List.{List}

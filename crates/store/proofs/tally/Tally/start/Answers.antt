@@ -1,4 +1,4 @@
--- `store::tally::Tally::start` meets its contract: the sum so far is where the macro that is next starts, and each macro adds at most 255.
+-- `store::tally::Tally::start` meets its contract: each macro adds at most 255.
 use Prim.Native.Nat.{ℕ, ◌+◌}
 use mathlib.Core.Path.{◌≡◌, refl}
 use mathlib.Core.List.{List}

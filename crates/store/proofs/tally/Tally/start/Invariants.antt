@@ -1,4 +1,4 @@
--- `store::tally::Tally::start` meets its contract: the sum so far is where the macro that is next starts, and each macro adds at most 255.
+-- `store::tally::Tally::start`: the sum so far is where the macro that is next starts.
 use Prim.Native.Nat.{◌*◌, ◌≤◌}
 use mathlib.Core.Path.{◌≡◌}
 use Rattle.store.specs.Pool.{start_of}
