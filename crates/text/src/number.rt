@@ -46,7 +46,7 @@ pub fn whole_of(part: &[u8]) -> Option<u32>
     Some(digits.value)
 }
 
-// The quarters that the end of a goal says.
+// The quarters that the end of a goal says. (No `match` on byte strings: its arms tell a proof the length alone.)
 fn fraction_of(part: &[u8]) -> Option<u32>
     ensures { result ≡ fraction_of part.now }
 {

@@ -1,5 +1,5 @@
 -- `fits` meets its contract: what is left of the room, the header and the lines so far are the room.
-use Prim.Native.Nat.{ℕ, ◌+◌, ◌-◌, ◌/◌, ◌≤◌}
+use Prim.Native.Nat.{ℕ, ◌+◌, ◌/◌, ◌≤◌}
 use mathlib.Core.Path.{◌≡◌}
 use mathlib.Core.List.{List}
 use lib.ListN.{length}
@@ -13,6 +13,3 @@ pub record Counted (records : List ℕ) (room left line : ℕ) : Type 0 where
 
 abbrev pub invariant-loop-line : goal.invariant-loop-line
 invariant-loop-line l = Counted l.records l.room l.left l.line
-
-abbrev pub decreases-loop-line : goal.decreases-loop-line
-decreases-loop-line l = l.line-end - l.line

@@ -1,5 +1,5 @@
 -- `put_lines` meets its contract: after so many turns the lines of so many records are laid down.
-use Prim.Native.Nat.{ℕ, ◌+◌, ◌-◌, ◌/◌, ◌≤◌}
+use Prim.Native.Nat.{ℕ, ◌+◌, ◌/◌, ◌≤◌}
 use mathlib.Core.List.{List}
 use lib.ListN.{length}
 use Rattle.words.proofs.Stores.{Laid}
@@ -14,6 +14,3 @@ pub record Lines (room₀ : List ℕ) (from : ℕ) (records room : List ℕ) (at
 
 abbrev pub invariant-loop-place : goal.invariant-loop-place
 invariant-loop-place l = Lines l.initial.room l.from l.records l.room l.at l.place
-
-abbrev pub decreases-loop-place : goal.decreases-loop-place
-decreases-loop-place l = l.place-end - l.place
