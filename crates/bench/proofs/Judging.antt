@@ -16,7 +16,6 @@ use Rattle.camera.specs.Camera.{camera_second}
 use Rattle.store.specs.declared.Store.{Store}
 use Rattle.store.specs.declared.Step.{Step}
 use Rattle.store.specs.declared.Unsound.{Unsound}
-use Rattle.store.specs.declared.groups.Group.{Group}
 use Rattle.store.specs.declared.tally.Survey.{Survey}
 use Rattle.store.specs.Pool.{idle}
 use Rattle.store.specs.Effects.{store_with, group_of, kinds_in, next_group, after_second}
@@ -34,6 +33,13 @@ use Rattle.bench.proofs.Executing.{one_code}
 -- What is at work of a bench is, on the bench's own pool, that bench; so what is told of it is told of the bench.
 pub own_bench : (b : Bench) (works : Works) → works ≡ works_of b → bench_of works b.store.pool ≡ b
 own_bench b works is = ap (λ (w : Works). bench_of w b.store.pool) is
+
+module _ (b : Bench) {works : Works} (own : works ≡ works_of b) where
+  pub own_rules : {rules : Bool} → rules ≡ rules_hold (bench_of works b.store.pool) → rules_hold b ≡ rules
+  own_rules hold = sym (hold ∙ ap rules_hold (own_bench b works own))
+
+  pub own_step : {r : Result Step Unsound} → r ≡ stepped_of (bench_of works b.store.pool).store → r ≡ stepped_of b.store
+  own_step stepped = stepped ∙ ap (λ (c : Bench). stepped_of c.store) (own_bench b works own)
 
 module _ (b : Bench) where
   -- The rules outside the store do not hold where one of their tests fails; where those before it pass, the last decides.

@@ -3,16 +3,15 @@
 use Prim.Native.Nat.{ℕ}
 use mathlib.Core.Path.{◌≡◌, refl, sym, ap, ◌∙◌, subst}
 use mathlib.Core.List.{List, [], ◌∷◌}
-use mathlib.Core.Bool.{true, false}
+use mathlib.Core.Bool.{true}
 use borrow.Author.Rules.{rules}
 use denote.Laws.{Is}
 use denote.Struct.Declared.{row}
 use denote.Struct.Laws.{val}
 use Rattle.std.specs.Prelude.{Result}
 use Rattle.wire.specs.declared.kinds.Command.{Command}
-use Rattle.store.specs.declared.Store.{Store}
 use Rattle.store.specs.declared.tally.Tally.{Tally}
-use Rattle.store.specs.TallySteps.{tally_of, store_of, Tallied}
+use Rattle.store.specs.TallySteps.{tally_of, Tallied}
 use Rattle.store.proofs.Sound.{Shaped}
 use Rattle.store.proofs.Tallies.{tallied_own}
 use Rattle.bench.specs.declared.Bench.{Bench}

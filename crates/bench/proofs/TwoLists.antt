@@ -31,35 +31,46 @@ module _ (list : List ℕ) {left : List ℕ} {number : ℕ} (is : (left ≡ list
   pub raw_even : length list ≤ 4096 → Even (numbers_from (number + 1) (rests left)) (rests left)
   raw_even short = rw (is.0, is.1) (own_even list, rests_512 list short)
 
-  -- So the kit's list leaves what it is said to leave.
-  pub kit_done : (b : Bench) (room : List ℕ) {b₀ b₁ : Bench} {m : ℕ} {room₁ : List ℕ} → b₀ ≡ b
-      → b₁ ≡ (run_rests b₀ 1 (numbers_from (number + 1) (rests left)) (rests left)).bench → m ≡ length (rests left)
-      → room₁ ≡ written (run_rests b₀ 1 (numbers_from (number + 1) (rests left)) (rests left)).records room
-      → (m ≡ length (rests list)) × ((b₁ ≡ (kit_part b list).bench) × (room₁ ≡ written (kit_part b list).records room))
-  kit_done b room {b₀} b₀_is b₁_is m_is room₁_is =
-      let part : run_rests b₀ 1 (numbers_from (number + 1) (rests left)) (rests left) ≡ kit_part b list = rw (is.0, is.1, b₀_is) refl in (
-        m_is ∙ ap (λ s. length (rests s)) is.0,
-        (b₁_is ∙ ap (λ (l : Listed). l.bench) part, room₁_is ∙ ap (λ (l : Listed). written l.records room) part),
-      )
+-- The kit's list was carried out, with m records, and the records of both lists have room, whatever the pupil's numbers are.
+pub record KitDone (b : Bench) (kit numbers : List ℕ) (rs : List (List ℕ)) (room : List ℕ) (m : ℕ) (b₁ : Bench) (room₁ : List ℕ) : Type 0 where
+  pub even : length numbers ≡ length rs
+  pub fits : (length (rests kit) + length rs) * record_length ≤ length room
+  pub count : m ≡ length (rests kit)
+  pub bench : b₁ ≡ (kit_part b kit).bench
+  pub left : room₁ ≡ written (kit_part b kit).records room
 
--- The records of both lists have room, whatever the pupil's numbers are, and the kit's list was carried out with m records.
-module _ (b : Bench) (kit numbers : List ℕ) (rs : List (List ℕ)) (room : List ℕ) (even : length numbers ≡ length rs)
-    (fits : (length (rests kit) + length rs) * record_length ≤ length room) {m : ℕ} {b₁ : Bench} {room₁ : List ℕ}
-    (m_is : m ≡ length (rests kit)) (b₁_is : b₁ ≡ (kit_part b kit).bench) (room₁_is : room₁ ≡ written (kit_part b kit).records room) where
+-- So it is where it was read from its start and begun on that bench.
+pub kit_done : {kit left : List ℕ} {number : ℕ} → (left ≡ kit) × (number ≡ 0) → length kit ≤ 4096 → {room : List ℕ} → report_room ≤ length room
+    → {numbers : List ℕ} {rs : List (List ℕ)} → Even numbers rs → {b b₀ b₁ : Bench} {m : ℕ} {room₁ : List ℕ} → b₀ ≡ b
+    → b₁ ≡ (run_rests b₀ 1 (numbers_from (number + 1) (rests left)) (rests left)).bench → m ≡ length (rests left)
+    → room₁ ≡ written (run_rests b₀ 1 (numbers_from (number + 1) (rests left)) (rests left)).records room
+    → KitDone b kit numbers rs room m b₁ room₁
+kit_done {kit} {left} {number} is short {room} enough even {b} {b₀} b₀_is b₁_is m_is room₁_is =
+    let part : run_rests b₀ 1 (numbers_from (number + 1) (rests left)) (rests left) ≡ kit_part b kit = rw (is.0, is.1, b₀_is) refl in
+    record {
+      even = even.0;
+      fits = omega (arith, rests_512 kit short, even.1, enough);
+      count = m_is ∙ ap (λ s. length (rests s)) is.0;
+      bench = b₁_is ∙ ap (λ (l : Listed). l.bench) part;
+      left = room₁_is ∙ ap (λ (l : Listed). written l.records room) part;
+    }
+
+module _ {b : Bench} {kit numbers : List ℕ} {rs : List (List ℕ)} {room : List ℕ} {m : ℕ} {b₁ : Bench} {room₁ : List ℕ}
+    (done : KitDone b kit numbers rs room m b₁ room₁) where
   abbrev first : List ℕ
   first = (kit_part b kit).records
 
   first_long : length first ≡ m * record_length
-  first_long = omega (arith, records_long b 1 (own_numbers kit) (rests kit) (own_even kit))
+  first_long = omega (arith, done.count, records_long b 1 (own_numbers kit) (rests kit) (own_even kit))
 
   first_put : room₁ ≡ first ++ drop (length first) room
-  first_put = room₁_is ∙ with_room first room (omega (arith, first_long))
+  first_put = done.left ∙ with_room first room (omega (arith, done.fits, done.count, first_long))
 
   -- So the pupil's have room behind the kit's.
   pub rest_fits : (m + length rs) * record_length ≤ length room₁
   rest_fits =
       let long = ap length first_put ∙ length-append first (drop (length first) room) in
-      omega (arith, first_long, length-drop (length first) room)
+      omega (arith, long, done.fits, done.count, first_long, length-drop (length first) room)
 
   pub part_fits : length rs * record_length ≤ length (take (length room₁ - m * record_length) (drop (m * record_length) room₁))
   part_fits = rw (from_place room₁ (m * record_length)) (omega (arith, rest_fits, length-drop (m * record_length) room₁))
@@ -71,18 +82,18 @@ module _ (b : Bench) (kit numbers : List ℕ) (rs : List (List ℕ)) (room : Lis
     second = (pupil_by b kit numbers rs).records
 
     pub bench_left : b₂ ≡ ended_by b kit numbers rs
-    bench_left = b₂_is ∙ ap (λ (b : Bench). ended_as (run_rests b 2 numbers rs) (length rs)) b₁_is
+    bench_left = b₂_is ∙ ap (λ (b : Bench). ended_as (run_rests b 2 numbers rs) (length rs)) done.bench
 
     pupil_put : part ≡ written second (take (length room₁ - m * record_length) (drop (m * record_length) room₁))
     pupil_put =
         part_is
-        ∙ ap (λ (b : Bench). written (run_rests b 2 numbers rs).records (take (length room₁ - m * record_length) (drop (m * record_length) room₁))) b₁_is
+        ∙ ap (λ (b : Bench). written (run_rests b 2 numbers rs).records (take (length room₁ - m * record_length) (drop (m * record_length) room₁))) done.bench
 
     pub both_put : put_mid (m * record_length) (length room₁ - m * record_length) room₁ part ≡ written (report_by b kit numbers rs) room
     both_put =
         part_written (m * record_length) second room₁ part (omega (arith, rest_fits)) pupil_put
         ∙ rw (first_put, take_at first (drop (length first) room) (m * record_length) first_long, drop_at first (drop (length first) room) (m * record_length) first_long)
-        (sym (written_both first second room (omega (arith, first_long, records_long (kit_part b kit).bench 2 numbers rs even))))
+        (sym (written_both first second room (omega (arith, first_long, records_long (kit_part b kit).bench 2 numbers rs done.even))))
 
 -- No refusal of a run has code 0.
 begun_other : (refusal : RunRefusal) → eqb (begun_code refusal) 0 ≡ false

@@ -6,8 +6,7 @@
 ghost use Rattle.std.specs.Prelude.{◌≡◌, [], IfOk, is_ok};
 ghost use Rattle.camera.specs.Camera.{camera_second};
 ghost use Rattle.store.specs.Effects.{group_of, kinds_in};
-ghost use Rattle.store.specs.TallySteps.{pool_after};
-ghost use Rattle.store.specs.TallySteps.{tally_of};
+ghost use Rattle.store.specs.TallySteps.{pool_after, tally_of};
 ghost use Rattle.bench.specs.declared.Rejection.TheVariants.{Unsound, Misread, Denied};
 ghost use Rattle.bench.specs.Status.{fresh_bench, pace_of, status_of, rules_hold, bench_sound, told_status, status_at, told_free, free_at};
 ghost use Rattle.bench.specs.Status.{told_housekeeping, housekeeping_at};
@@ -199,6 +198,7 @@ fn executed_all(camera: Camera, group: Group) -> Executed
 {
     let mut next = camera;
     let mut codes: [u8; 64] = [0; 64];
+    // The loop's invariant speaks of the end by this name.
     let size = store::group_size(group.count);
     for i in 0..size {
         let kind = store::handed_at(&group.words, i);

@@ -80,6 +80,7 @@ fn run_list<S: Source + Drop>(
     let mut works = works;
     let mut list = list;
     let mut count: u32 = 0;
+    // Not `for`, which takes an Iterator: a source's own `next` promises what is left behind each command, and the invariant is about that.
     while let Some((number, read)) = list.next() {
         let decision = decide_read(works.camera.power, works.tally, read);
         let end = count as usize * report::RECORD;
@@ -160,10 +161,7 @@ impl Bench {
         ensures result_value { ran_of self result ≡ run_of self kit.now pupil.now room.old }
         ensures room_after { room.new ≡ room_after self kit.now pupil.now room.old }
     {
-        if walk::LONGEST < kit.len() {
-            return Err(RunRefusal::ListTooLong);
-        }
-        if walk::LONGEST < pupil.len() {
+        if walk::LONGEST < kit.len() || walk::LONGEST < pupil.len() {
             return Err(RunRefusal::ListTooLong);
         }
         run_judged(self, kit, Raw::new(pupil), room)
