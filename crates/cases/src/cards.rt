@@ -21,6 +21,7 @@ fn answer(moved: Result<usize, Refused>, room: &[u8]) {
 }
 
 // Moves the list of a line there and, where that was done, what was written back: of an empty list no byte comes back, and neither does of a refusal.
+// (Closures, as a function of another crate is not passed by its name.)
 fn moved<T, B>(s: &[u8], there: T, back: B)
 where
     T: FnOnce(&[u8], &mut [u8]) -> Result<usize, Refused>,

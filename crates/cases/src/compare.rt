@@ -7,7 +7,7 @@ use wire::Command;
 /// The words of the pool, three to an entry.
 pub const WORDS: usize = 3 * store::ENTRIES;
 
-// The same macros and the same words in the whole pool?
+// The same macros and the same words in the whole pool? By its fields: a store derives no equality, since nothing but this program would use one on its 3 KB.
 fn same_store(a: &Store, b: &Store) -> bool {
     a.pool == b.pool
         && a.counts == b.counts

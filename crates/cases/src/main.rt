@@ -33,26 +33,19 @@ const TEXT: usize = 524288;
 
 const BYTES: usize = 40000;
 
-// Verbs of single frames, of the gas valve, and of lists on a card and damaged ones.
-fn moved(verb: &[u8], s: &[u8]) {
+// Verbs that leave the bench of the lines as it is: what it answers itself, four seats around it, and all that asks no bench.
+fn looked(b: Bench, verb: &[u8], s: &[u8]) {
     match verb {
-        b"frame" => frames::read(s),
-        b"values" => frames::values(s),
-        b"put" => frames::write(s),
-        b"tags" => tags::read(s),
-        b"pack" => tags::write(s),
-        b"gas" => valves::read(s),
-        b"valve" => valves::carry_out(s),
-        b"save" => cards::save(s),
-        b"load" => cards::load(s),
-        b"rescue" => rescues::rescue_list(s),
-        _ => say::text(b"no such verb"),
-    }
-}
-
-// Verbs of single commands, texts and indexes, and else those above.
-fn single(verb: &[u8], s: &[u8]) {
-    match verb {
+        b"status" => telling::status(b"", b),
+        b"free" => telling::free(b"free ", b),
+        b"housekeeping" => telling::kept(b"", b),
+        b"state" => states::state(setting::set(b, s)),
+        b"run" => lists::run(b, s),
+        b"typed" => texts::typed(b, s),
+        b"shown" => lists::shown(s),
+        b"queue" => seated::queue(b, s),
+        b"turn" => seated::turn(b, s),
+        b"seats" => seated::each(b, s),
         b"read" => reading::read(s),
         b"span" => say::number(wire::span(s) as u64),
         b"again" => reading::again(s),
@@ -67,24 +60,17 @@ fn single(verb: &[u8], s: &[u8]) {
         b"grow" => indexes::grow(s),
         b"find" => indexes::find(s),
         b"jump" => indexes::jump(s),
-        _ => moved(verb, s),
-    }
-}
-
-// Verbs that leave the bench of the lines as it is, those of four seats around it, and else those above.
-fn looked(b: Bench, verb: &[u8], s: &[u8]) {
-    match verb {
-        b"status" => telling::status(b"", b),
-        b"free" => telling::free(b"free ", b),
-        b"housekeeping" => telling::kept(b"", b),
-        b"state" => states::state(setting::set(b, s)),
-        b"run" => lists::run(b, s),
-        b"typed" => texts::typed(b, s),
-        b"shown" => lists::shown(s),
-        b"queue" => seated::queue(b, s),
-        b"turn" => seated::turn(b, s),
-        b"seats" => seated::each(b, s),
-        _ => single(verb, s),
+        b"frame" => frames::read(s),
+        b"values" => frames::values(s),
+        b"put" => frames::write(s),
+        b"tags" => tags::read(s),
+        b"pack" => tags::write(s),
+        b"gas" => valves::read(s),
+        b"valve" => valves::carry_out(s),
+        b"save" => cards::save(s),
+        b"load" => cards::load(s),
+        b"rescue" => rescues::rescue_list(s),
+        _ => say::text(b"no such verb"),
     }
 }
 

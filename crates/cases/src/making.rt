@@ -5,8 +5,7 @@ use bench::Bench;
 use walk::Commands;
 
 /// `do`: the bench after these commands; one that is refused leaves it as it is.
-pub fn commands(b: Bench, s: &[u8]) -> Bench {
-    let mut b = b;
+pub fn commands(mut b: Bench, s: &[u8]) -> Bench {
     for rest in Commands::new(s) {
         b = b.carry_out_bytes(rest).unwrap_or(b);
     }
@@ -14,8 +13,7 @@ pub fn commands(b: Bench, s: &[u8]) -> Bench {
 }
 
 /// `times`: the bench after so many turns of these commands.
-pub fn times(b: Bench, s: &[u8]) -> Bench {
-    let mut b = b;
+pub fn times(mut b: Bench, s: &[u8]) -> Bench {
     for _ in 0..words::half_at(s, 0) {
         b = commands(b, lines::rest(s, 2));
     }
@@ -23,8 +21,7 @@ pub fn times(b: Bench, s: &[u8]) -> Bench {
 }
 
 /// `pass`: the bench after so many seconds.
-pub fn pass(b: Bench, s: &[u8]) -> Bench {
-    let mut b = b;
+pub fn pass(mut b: Bench, s: &[u8]) -> Bench {
     for _ in 0..words::half_at(s, 0) {
         b = b.second().map_or(b, |passed| passed.bench);
     }

@@ -198,6 +198,7 @@ fn escaped_digit(room: &mut [u8], scan: Scan, c: u8) -> Scan {
 }
 
 // Puts a number in groups of seven bits, lowest first, from a place on, the high bit set on all but the last, and answers where they end.
+// A `while`, as it takes one group after another off the number until less than one is left.
 fn groups(room: &mut [u8], at: usize, value: u32) -> usize {
     let mut left = value;
     let mut i = at;

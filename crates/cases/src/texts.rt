@@ -35,6 +35,7 @@ pub fn wrote(room: &[u8], size: usize) -> &[u8] {
 }
 
 // Translates the text or list of a line: the code, with the line or command behind this name, and how many bytes were written, and these.
+// (Closures, as a function of another crate is not passed by its name.)
 fn translated<T, P>(s: &[u8], translate: T, name: &[u8], print: P)
 where
     T: FnOnce(&[u8], &mut [u8]) -> Result<usize, Refusal>,
