@@ -21,11 +21,11 @@ use Rattle.wire.specs.Write.{command_bytes, list_bytes, room_after}
 use Rattle.wire.proofs.Lengths.{length_command, row_words_most}
 use Rattle.wire.proofs.Writes.{allowed}
 use Rattle.card.specs.declared.answers.Fault.{Fault}
-use Rattle.std.specs.Prelude.{Result, Ok, Err}
+use Rattle.card.specs.declared.command.Stored.{Stored}
 use Rattle.card.specs.Command.{command_at}
 use Rattle.card.specs.List.{Said, bad, next_said, said_from}
 use Rattle.card.specs.Answers.{told_fault}
-use Rattle.card.specs.Steps.{got_of, end_after, buffer_after, Kept, All}
+use Rattle.card.specs.Steps.{got_command, end_after, buffer_after, Kept, All}
 use Rattle.card.proofs.Stores.{part_sets}
 use Rattle.card.proofs.Commands.{TakenCommand, taken_command}
 use Rattle.card.proofs.Packing.{behind, behind_more, behind-said, behind-bad}
@@ -115,29 +115,29 @@ module _ (s : List ℕ) (count start : ℕ) (buffer : List ℕ) (at pos i : ℕ)
   abbrev later : ℕ → Said
   later end = said_from (count - (i + 1)) (i + 1 + 1) s end
 
-  module _ (more : i < count) (r : Result (Command × ℕ) Fault) (is_r : got_of r ≡ command_at s at) where
-    step : said_from (count - i) (i + 1) s at ≡ next_said (got_of r) (i + 1) later
+  module _ (more : i < count) (r : Stored) (is_r : got_command r ≡ command_at s at) where
+    step : said_from (count - i) (i + 1) s at ≡ next_said (got_command r) (i + 1) later
     unfolding said_from
     step =
         let left : count - i ≡ suc (count - (i + 1)) = omega arith in
         rw (left, is_r, ← add-one (i + 1))
 
-    pub gathered_bad : (fault : Fault) → r ≡ Err fault → said_from count 1 s start ≡ bad (i + 1) (told_fault fault)
+    pub gathered_bad : (fault : Fault) → r ≡ Stored.Bad fault → said_from count 1 s start ≡ bad (i + 1) (told_fault fault)
     gathered_bad fault e =
         so_far.whole
-        ∙ ap (behind so_far.done) (step ∙ ap (λ q. next_said (got_of q) (i + 1) later) e)
+        ∙ ap (behind so_far.done) (step ∙ ap (λ q. next_said (got_command q) (i + 1) later) e)
         ∙ behind-bad so_far.done (i + 1) (told_fault fault)
 
-    module _ (bytes : Bytes s) (c : Command) (end : ℕ) (e : r ≡ Ok (c, end)) where
+    module _ (bytes : Bytes s) (c : Command) (end : ℕ) (e : r ≡ Stored.Taken c end) where
       pub gathered_command : TakenCommand s at c end
-      gathered_command = taken_command s bytes at c end (sym is_r ∙ ap got_of e)
+      gathered_command = taken_command s bytes at c end (sym is_r ∙ ap got_command e)
 
       pub one_gathered : (pos' : ℕ) (buffer' : List ℕ) → pos' ≡ end_after c pos → buffer' ≡ buffer_after c pos buffer
           → Gathering s count start buffer' end pos' (i + 1)
       one_gathered pos' buffer' is_pos is_buffer = rw (is_pos, is_buffer) (record {
         done = so_far.done ++ (c ∷ []);
         whole = so_far.whole
-            ∙ ap (behind so_far.done) (step ∙ ap (λ q. next_said (got_of q) (i + 1) later) e)
+            ∙ ap (behind so_far.done) (step ∙ ap (λ q. next_said (got_command q) (i + 1) later) e)
             ∙ sym (behind_more so_far.done c (later end));
         few = omega arith;
         room = so_far.room ∙ sym (length_after (leb (pos + length (command_bytes c)) (length buffer)));

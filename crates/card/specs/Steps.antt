@@ -10,6 +10,7 @@ use Rattle.wire.specs.Kind.{parts_with}
 use Rattle.wire.specs.Write.{command_bytes, list_bytes}
 use Rattle.card.specs.declared.answers.Fault.{Fault}
 use Rattle.card.specs.declared.answers.Refused.{Refused}
+use Rattle.card.specs.declared.command.Stored.{Stored}
 use Rattle.card.specs.Reading.{Got, got, refused, passing}
 use Rattle.card.specs.Number.{endless}
 use Rattle.card.specs.List.{stored_commands, Said, said, bad}
@@ -26,6 +27,10 @@ no_room = of_none (Fault.Wire Refusal.NoRoom)
 abbrev pub got_of : {A : Type 0} → Result (A × ℕ) Fault → Got A
 got_of (Ok (value, end)) = got value end
 got_of (Err fault) = refused (told_fault fault)
+
+abbrev pub got_command : Stored → Got Command
+got_command (Stored.Taken c end) = got c end
+got_command (Stored.Bad fault) = refused (told_fault fault)
 
 abbrev pub got_arguments : Form → Result (ℕ × ℕ × ℕ) Fault → Got Parts
 got_arguments form (Ok (first, second, end)) = got (parts_with form first second) end

@@ -14,7 +14,8 @@ const MOST_BEFORE: usize = 4;
 
 const LARGEST: u64 = 0xffff_ffff;
 
-// A number of more groups than it may have, whose next one stands at a place: 35, or 34 where it does not end.
+// A number of more groups than it may have, whose next one stands at a place: 35, or 34 where it does not end. (A range and no
+// part of the bytes, here and below: the place may lie past the end.)
 fn longer(s: &[u8], at: usize) -> Result<(u32, usize), Fault>
     ensures { got_of result ≡ longer_as s.now at }
 {

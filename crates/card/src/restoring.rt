@@ -7,7 +7,7 @@ ghost use Rattle.card.specs.Answers.{answer_of, raw_by, from_card};
 ghost use Rattle.card.specs.Steps.{got_of, end_after, buffer_after, AsSaid};
 
 use super::answers::{Fault, Refused};
-use super::command::command_at;
+use super::command::{Stored, command_at};
 use super::number::number_at;
 use super::storing::FIRST;
 use wire::Command;
@@ -40,7 +40,8 @@ fn put_behind(command: Command, buffer: &mut [u8], pos: usize) -> usize
 }
 
 // Puts so many stored commands, from a place on, at the front of a buffer as a raw list: how many bytes they have (more than the longest list has where
-// they are too many), and where they end. Each turn passes some bytes, so that a count of commands that are not there ends with the bytes.
+// they are too many), and where they end. Each turn passes some bytes, so that a count of commands that are not there ends with the bytes. Tried: a `Result`
+// of the command, with `map_err` and `?`; slower (178 of 160 million instructions with a `match`, 23 ms of 20), and the enum is faster than both.
 fn gather(s: &[u8], start: usize, count: u32, buffer: &mut [u8]) -> Result<(usize, usize), Refused>
     requires { 4096 ≡ length buffer.old }
     ensures { AsSaid result (said_from count 1 s.now start) buffer.new }
@@ -48,12 +49,18 @@ fn gather(s: &[u8], start: usize, count: u32, buffer: &mut [u8]) -> Result<(usiz
     let mut at = start;
     let mut pos = 0;
     for i in 0..count {
-        let (command, end) = command_at(s, at).map_err(|fault| Refused {
-            number: i + 1,
-            fault,
-        })?;
-        pos = put_behind(command, buffer, pos);
-        at = end;
+        match command_at(s, at) {
+            Stored::Bad(fault) => {
+                return Err(Refused {
+                    number: i + 1,
+                    fault,
+                });
+            }
+            Stored::Taken(command, end) => {
+                pos = put_behind(command, buffer, pos);
+                at = end;
+            }
+        }
     }
     Ok((pos, at))
 }

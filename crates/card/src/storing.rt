@@ -25,7 +25,7 @@ const THREE_GROUPS: u32 = 2_097_152;
 
 const FOUR_GROUPS: u32 = 268_435_456;
 
-// How many bytes a number takes.
+// How many bytes a number takes. (Four limits, one to each length: a loop that divides would be no shorter.)
 #[tactic(auto, unfolding(crate::specs::Number::groups_in, crate::specs::Number::number_bytes))]
 fn number_length(value: u32) -> usize
     ensures { result ≡ length (number_bytes value) }
@@ -93,7 +93,7 @@ fn put_command(room: &mut [u8], at: usize, command: Command) -> usize
 }
 
 // Puts the commands of a raw list at the front of a buffer, in stored form: how many they are, and how many bytes they have there. In stored form none is
-// longer than it was.
+// longer than it was. (It counts the commands itself: how many there are is wanted behind the last, when an `enumerate` is used up.)
 fn pack(list: &[u8], buffer: &mut [u8]) -> Result<(u32, usize), Refused>
     requires list_len_bound { length list.now ≤ 4096 }
     requires value { 4096 ≡ length buffer.old }
@@ -112,7 +112,7 @@ fn pack(list: &[u8], buffer: &mut [u8]) -> Result<(u32, usize), Refused>
     Ok((count, pos))
 }
 
-// Puts the first two numbers and the commands at the front of a room.
+// Puts the first two numbers and the commands at the front of a room. (Two calls: a loop over two numbers would be longer.)
 fn put_list(room: &mut [u8], count: u32, commands: &[u8])
     requires { length (number_bytes 1 ++ (number_bytes count ++ commands.now)) ≤ length room.old }
     ensures { room.new ≡ sets room.old 0 (number_bytes 1 ++ (number_bytes count ++ commands.now)) }

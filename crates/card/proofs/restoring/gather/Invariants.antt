@@ -4,4 +4,4 @@ use Rattle.card.proofs.Gathering.{Gathering}
 use Rattle.card.proofs.restoring.gather.Given as goal
 
 abbrev pub invariant-loop-i : goal.invariant-loop-i
-invariant-loop-i l = Gathering l.s l.count l.start l.buffer l.at l.pos l.i-counter
+invariant-loop-i l = Gathering l.s l.count l.start l.buffer l.at l.pos l.i
