@@ -35,17 +35,15 @@ pub fn half_at(s: &[u8], at: usize) -> u16
     }
 }
 
-// The 32-bit number that begins at a place and that the end may cut off. By itself, so that the way of `word_at` through a whole number stays short: with
-// both in one, the sums over long commands take twice the time.
+// The 32-bit number that begins at a place and that the end may cut off, from two halves: put together as in `word_at`, it would share that one's last steps,
+// and each word of a long command's sum would jump there and back.
 fn cut_word(s: &[u8], at: usize) -> u32
     ensures { result ≡ word_at s.now at }
 {
-    match s.get(at..) {
-        Some([a, b, c, d, ..]) => u32::from_be_bytes([*a, *b, *c, *d]),
-        Some([a, b, c]) => u32::from_be_bytes([*a, *b, *c, 0]),
-        Some([a, b]) => u32::from_be_bytes([*a, *b, 0, 0]),
-        Some([a]) => u32::from_be_bytes([*a, 0, 0, 0]),
-        _ => 0,
+    if at < s.len() {
+        u32::from(half_at(s, at)) * 65536 + u32::from(half_at(s, at + 2))
+    } else {
+        0
     }
 }
 
