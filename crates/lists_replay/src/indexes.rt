@@ -8,7 +8,7 @@ fn built_lines(out: &mut [u8], used: usize, list: &[u8], old: &[u16], room: &mut
     let indexed = index::build(list, old, room);
     let count = indexed.unwrap_or(0);
     let used = output::text(out, used, b"indexed");
-    let used = output::number(out, used, words::code_of(&indexed) as u64);
+    let used = output::number(out, used, u64::from(words::code_of(&indexed)));
     let used = output::number(out, used, count as u64);
     let used = offsets::numbers(out, used, room, count);
     let used = output::end(out, used);

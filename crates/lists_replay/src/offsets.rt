@@ -25,7 +25,7 @@ pub fn take(s: &[u8], at: usize) -> Stretch {
 pub fn numbers(out: &mut [u8], used: usize, room: &[u16], count: usize) -> usize {
     let mut next = used;
     for &offset in room.iter().take(count) {
-        next = output::number(out, next, offset as u64);
+        next = output::number(out, next, u64::from(offset));
     }
     next
 }

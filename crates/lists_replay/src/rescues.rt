@@ -15,8 +15,8 @@ const NOTHING: Rescued = Rescued {
 
 fn skipped_line(out: &mut [u8], used: usize, stretch: &[u8]) -> usize {
     let used = output::text(out, used, b"skipped");
-    let used = output::number(out, used, words::half_at(stretch, 0) as u64);
-    let used = output::number(out, used, words::half_at(stretch, LENGTH) as u64);
+    let used = output::number(out, used, u64::from(words::half_at(stretch, 0)));
+    let used = output::number(out, used, u64::from(words::half_at(stretch, LENGTH)));
     output::end(out, used)
 }
 
@@ -40,7 +40,7 @@ fn rescued_lines(
     let code = words::code_of(&rescued);
     let done = rescued.unwrap_or(NOTHING);
     let used = output::text(out, used, b"rescued");
-    let used = output::number(out, used, code as u64);
+    let used = output::number(out, used, u64::from(code));
     let used = output::number(out, used, done.kept as u64);
     let used = output::number(out, used, done.stretches as u64);
     let used = output::hex(out, used, script::front(room, done.kept));

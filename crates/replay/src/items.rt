@@ -12,6 +12,7 @@ pub struct State {
 }
 
 impl State {
+    /// A fresh bench, before the first item.
     pub fn fresh() -> State {
         State {
             bench: Bench::fresh(),

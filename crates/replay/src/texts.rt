@@ -24,7 +24,8 @@ fn translated_lines(
     )
 }
 
-// What 0a and 0b have in common: a room's length of two bytes, and the bytes that are translated.
+// What 0a and 0b have in common: a room's length of two bytes, and the bytes that are translated. (Both hand over a closure: a function of another
+// crate is not passed by its name.)
 fn translated<T: Fn(&[u8], &mut [u8]) -> Result<usize, Refusal>>(
     place: Place,
     s: &[u8],

@@ -7,22 +7,22 @@ use wire::{Stray, Told};
 
 // What was wrong with a number: the parameter, the value found, the lowest and the highest allowed.
 fn wrong(out: &mut [u8], used: usize, stray: Stray) -> usize {
-    let used = output::number(out, used, stray.par as u64);
-    let used = output::number(out, used, stray.value as u64);
-    let used = output::number(out, used, stray.low as u64);
-    output::number(out, used, stray.high as u64)
+    let used = output::number(out, used, u64::from(stray.par));
+    let used = output::number(out, used, u64::from(stray.value));
+    let used = output::number(out, used, u64::from(stray.low));
+    output::number(out, used, u64::from(stray.high))
 }
 
 /// A code, and what was wrong with the number: ` CODE PAR VALUE LOW HIGH`.
 pub fn told(out: &mut [u8], used: usize, told: Told) -> usize {
-    let used = output::number(out, used, told.code as u64);
+    let used = output::number(out, used, u64::from(told.code));
     wrong(out, used, told.stray)
 }
 
 /// A code, the line or command that it is of, and what was wrong with the number: ` CODE NUMBER PAR VALUE LOW HIGH`.
 pub fn numbered(out: &mut [u8], used: usize, told: Told, number: u32) -> usize {
-    let used = output::number(out, used, told.code as u64);
-    let used = output::number(out, used, number as u64);
+    let used = output::number(out, used, u64::from(told.code));
+    let used = output::number(out, used, u64::from(number));
     wrong(out, used, told.stray)
 }
 
