@@ -1,5 +1,5 @@
 -- Soundness: fresh seats are sound, every event keeps them so, and so no state that is reached gets 27.
-use Rattle.std.proofs.Common.{◌≡◌, ℕ, zero, suc, ◌+◌, ◌-◌, ◌<◌, ◌≤◌, Bool, true, false, eqb, ltb, leb, List, [], ◌∷◌, ◌++◌, length, get_or, take, drop, set, sym, refl, ◌∙◌, add-one, arith, length-append, length-drop, length-set, length-take, get_or-set_other, get_or-set_same, take-take, take-suc-set, ltb-false, ltb-true, eq-eqb, eqb-true, le-leb, leb-false, leb-true}
+use Rattle.std.proofs.Common.{◌≡◌, ℕ, zero, suc, ◌-◌, ◌<◌, ◌≤◌, Bool, true, false, eqb, ltb, leb, List, [], ◌∷◌, ◌++◌, length, get_or, take, drop, set, sym, refl, ◌∙◌, add-one, arith, length-append, length-drop, length-set, length-take, get_or-set_other, get_or-set_same, take-take, take-suc-set, ltb-false, ltb-true, eq-eqb, eqb-true, le-leb, leb-false, leb-true}
 use lib.ListN.{get_or-replicate}
 use lib.Seq.{take-append-le}
 use borrow.Author.Tests.{eqb-false}

@@ -1,7 +1,6 @@
 -- Laws behind the functions on the four seats.
 use Rattle.std.proofs.Common.{◌≡◌, ℕ, zero, suc, ◌+◌, ◌%◌, ◌<◌, ◌≤◌, Bool, true, false, cond, eqb, ltb, List, [], ◌∷◌, ◌++◌, sym, refl, ap, ◌∙◌, arith, ltb-true, le-ltb, lt-ltb}
 use Rattle.std.specs.Prelude.{Result, Ok, Err}
-use Rattle.std.specs.Result.{result_unwrap_or}
 use Rattle.bench.specs.Exports.{Check, ◌when◌, Command, plain, told_by, Answer, said, read_checks}
 use Rattle.bench.specs.declared.Bench.{Bench}
 use Rattle.bench.specs.Status.{StatusTold, bench_sound}
@@ -208,10 +207,6 @@ told_sound b c other = go (bench_sound b) refl
 pub told_outcome : (b : Bench) (r : Result Bench Rejection) → (outcome_of b r).told ≡ told_by verdict_of r
 told_outcome b (Ok after) = refl
 told_outcome b (Err rejection) = refl
-
-pub left_outcome : (b : Bench) (r : Result Bench Rejection) → result_unwrap_or r b ≡ (outcome_of b r).bench
-left_outcome b (Ok after) = refl
-left_outcome b (Err rejection) = refl
 
 -- Where the seats' own rules hold, all is by the bench's soundness.
 module _ (s : Seats) (rules : rules_hold s ≡ true) where

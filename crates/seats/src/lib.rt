@@ -45,7 +45,7 @@ pub struct Passed {
 fn all_hold(queues: &[Queue]) -> bool
     ensures { result ≡ list_all queue_holds queues.now }
 {
-    queues.iter().all(|queue| queue.holds())
+    queues.iter().all(|queue| queue.keeps())
 }
 
 // Do all four queues hold?
@@ -74,11 +74,18 @@ impl Seats {
         self.last < SEATS && queues_hold(&self.queues)
     }
 
+    // Are lent seats sound?
+    fn sound(&self) -> bool
+        ensures { result ≡ seats_sound self.now }
+    {
+        self.obeys() && self.bench.is_sound()
+    }
+
     /// Is this state sound: do the last seat, the queues and the bench obey their rules? Rules: "Four seats, one bench".
     pub fn is_sound(self) -> bool
         ensures { result ≡ seats_sound self }
     {
-        self.obeys() && self.bench.is_sound()
+        self.sound()
     }
 
     /// A second of the shared bench, as the bench has it. The queues stay.

@@ -54,35 +54,17 @@ fn front_of(seat: u8, bytes: &[u8]) -> Result<Command, Refusal>
     Ok(command)
 }
 
-// A queue with one command more.
-fn entered_in(queue: Queue, command: Command) -> Queue
-    requires { queue.count < 32 }
-    ensures { result ≡ entered_in queue command }
+// One command more for a queue.
+fn enter(queue: &mut Queue, command: Command)
+    requires { queue.old.count < 32 }
+    ensures { queue.new ≡ entered_in queue.old command }
 {
-    let mut commands = queue.commands;
-    commands[queue.count as usize] = command;
-    Queue {
-        commands,
-        count: queue.count + 1,
-        queued: queue.queued.wrapping_add(1),
-    }
+    queue.commands[queue.count as usize] = command;
+    queue.count += 1;
+    queue.queued = queue.queued.wrapping_add(1);
 }
 
 impl Seats {
-    // A command enters the queue of its seat: 52 where 32 wait.
-    fn entered(self, seat: u8, command: Command) -> Result<Seats, Refusal>
-        requires { seat < 4 }
-        ensures { queued_of self result ≡ room_for self seat command }
-    {
-        let mut queues = self.queues;
-        let queue = queues[seat as usize];
-        if LONGEST <= queue.count as usize {
-            return Err(Refusal::Full);
-        }
-        queues[seat as usize] = entered_in(queue, command);
-        Ok(Seats { queues, ..self })
-    }
-
     /// The seats behind which one command from bytes waits: it goes behind those of its seat. A refused one gets no number and changes nothing.
     ///
     /// # Errors
@@ -91,10 +73,15 @@ impl Seats {
     pub fn queue(self, seat: u8, bytes: &[u8]) -> Result<Seats, Refusal>
         ensures { queued_of self result ≡ queue_at self seat bytes.now }
     {
-        if !self.is_sound() {
+        if !self.sound() {
             return Err(Refusal::Unsound);
         }
         let command = front_of(seat, bytes)?;
-        self.entered(seat, command)
+        if LONGEST <= self.queues[seat as usize].count as usize {
+            return Err(Refusal::Full);
+        }
+        let mut seats = self;
+        enter(&mut seats.queues[seat as usize], command);
+        Ok(seats)
     }
 }

@@ -48,10 +48,17 @@ impl Queue {
         }
     }
 
+    // Does a lent queue hold? Judged by value, each of the four is copied first.
+    pub(crate) fn keeps(&self) -> bool
+        ensures { result ≡ queue_holds self.now }
+    {
+        self.count as usize <= LONGEST && all_pass(&self.commands[..self.count as usize])
+    }
+
     /// Do at most 32 commands wait, and does each pass 8 to 10? Rules: "Four seats, one bench".
     pub fn holds(self) -> bool
         ensures { result ≡ queue_holds self }
     {
-        self.count as usize <= LONGEST && all_pass(&self.commands[..self.count as usize])
+        self.keeps()
     }
 }

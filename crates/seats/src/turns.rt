@@ -2,12 +2,12 @@
 ghost use Rattle.std.specs.Prelude.{◌≡◌, ◌<◌, true, unwrap_or, IfSome, if◌then◌else◌};
 ghost use Rattle.bench.specs.Exports.{record_bytes};
 ghost use Rattle.bench.specs.Status.{bench_sound};
-ghost use Rattle.seats.specs.Queues.{shifted_of, served_in, number_of};
+ghost use Rattle.seats.specs.Queues.{served_in, first_number};
 ghost use Rattle.seats.specs.State.{waits, next_after};
-ghost use Rattle.seats.specs.Turn.{turned_of, served_of, served_at, stays, turn_at};
+ghost use Rattle.seats.specs.Turn.{turned_of, served_at, stays, turn_at};
 
-use super::{LONGEST, Queue, SEATS, Seats};
-use bench::{Command, Unsound};
+use super::{Queue, SEATS, Seats};
+use bench::Unsound;
 
 // The code of a state that is not sound. A turn asks for its command's code anyway, for the record, so it tells by this what the bench has judged.
 const UNSOUND: u8 = 27;
@@ -28,32 +28,23 @@ fn record_of(seat: u8, code: u8, number: u32) -> [u8; 12]
     record
 }
 
-// The commands behind the first.
-fn shifted(commands: &[Command; 32]) -> [Command; 32]
-    ensures { result ≡ shifted_of commands.now }
+// The oldest command leaves a queue: those behind it move up.
+fn serve(queue: &mut Queue)
+    requires { 0 < queue.old.count }
+    ensures { queue.new ≡ served_in queue.old }
 {
-    let mut next = *commands;
-    next[..LONGEST - 1].copy_from_slice(&commands[1..]);
-    next
+    queue.commands.copy_within(1.., 0);
+    queue.count -= 1;
 }
 
-// A queue without its oldest command.
-fn served_in(queue: Queue) -> Queue
-    requires { 0 < queue.count }
-    ensures { result ≡ served_in queue }
+// The number of the oldest command that waits.
+fn first_number(queue: &Queue) -> u32
+    ensures { result ≡ first_number queue.now }
 {
-    Queue {
-        commands: shifted(&queue.commands),
-        count: queue.count - 1,
-        ..queue
-    }
-}
-
-// The number of the oldest of so many commands that wait.
-fn number_of(queued: u32, count: u8) -> u32
-    ensures { result ≡ number_of queued count }
-{
-    queued.wrapping_sub(count as u32).wrapping_add(1)
+    queue
+        .queued
+        .wrapping_sub(u32::from(queue.count))
+        .wrapping_add(1)
 }
 
 // The next waiting seat after the last served, if any.
@@ -73,28 +64,23 @@ fn next_waiting(queues: &[Queue; 4], last: u8) -> Option<u8>
 
 impl Seats {
     // The oldest command of a waiting seat is carried out: 27 where the bench is not sound, by its own judgement.
-    fn serve(self, seat: u8) -> Result<Turned, Unsound>
+    fn served(self, seat: u8) -> Result<Option<Turned>, Unsound>
         requires { (seat < 4) × (waits self.queues seat ≡ true) }
-        ensures { served_of self result ≡ (if bench_sound self.bench then served_at self seat else stays 27 self) }
+        ensures { turned_of self result ≡ (if bench_sound self.bench then served_at self seat else stays 27 self) }
     {
-        let mut queues = self.queues;
-        let queue = queues[seat as usize];
-        let carried = self.bench.carry_out(queue.commands[0]);
+        let carried = self.bench.carry_out(self.queues[seat as usize].commands[0]);
         let code = bench::told_of(&carried).code;
         if code == UNSOUND {
             return Err(Unsound);
         }
-        let number = number_of(queue.queued, queue.count);
-        queues[seat as usize] = served_in(queue);
-        let seats = Seats {
-            bench: carried.unwrap_or(self.bench),
-            queues,
-            last: seat,
-        };
-        Ok(Turned {
-            seats,
-            record: record_of(seat, code, number),
-        })
+        let record = record_of(seat, code, first_number(&self.queues[seat as usize]));
+        let mut seats = self;
+        serve(&mut seats.queues[seat as usize]);
+        seats.last = seat;
+        if let Ok(bench) = carried {
+            seats.bench = bench;
+        }
+        Ok(Some(Turned { seats, record }))
     }
 
     /// A turn: the oldest command of the next waiting seat after the last served is carried out and leaves its queue, whatever its code. Where nobody
@@ -111,7 +97,7 @@ impl Seats {
             return Err(Unsound);
         }
         match next_waiting(&self.queues, self.last) {
-            Some(seat) => Ok(Some(self.serve(seat)?)),
+            Some(seat) => self.served(seat),
             None if self.bench.is_sound() => Ok(None),
             None => Err(Unsound),
         }

@@ -4,7 +4,7 @@
 
 use bench::Bench;
 use camera::Camera;
-use seats::{Code, Queue, Seats, Turned, Unsound};
+use seats::{Code, Queue, Seats, Tell};
 use store::Store;
 use timing::{Folded, command_of, mixed, with_bench, with_byte};
 use wire::Command;
@@ -72,15 +72,6 @@ fn with_seats(sum: u64, seats: &Seats) -> u64 {
     with_bench(sum, seats.bench)
 }
 
-// What a turn answers: its code, whether a command was carried out, and then the record.
-fn with_served(sum: u64, turned: &Result<Option<Turned>, Unsound>) -> u64 {
-    match turned {
-        Ok(Some(turned)) => with_bytes(mixed(mixed(sum, 0), 1), &turned.record),
-        Ok(None) => mixed(mixed(sum, 0), 0),
-        Err(unsound) => mixed(mixed(sum, u64::from(unsound.code())), 0),
-    }
-}
-
 // The bytes that an event queues, as many as it says.
 fn queued_bytes(event: &[u8]) -> &[u8] {
     let end = BYTES_AT + words::byte_at(event, SIZE_AT) as usize;
@@ -131,12 +122,28 @@ pub struct LaterSeats {
     pub sum: u64,
 }
 
-// The command of an event is queued; a refused one leaves the seats.
-fn queued_at(seats: Seats, sum: u64, event: &[u8]) -> LaterSeats {
-    let queued = seats.queue(words::byte_at(event, SEAT_AT), queued_bytes(event));
-    LaterSeats {
-        sum: seats::told_of(&queued).folded(sum),
-        seats: queued.unwrap_or(seats),
+impl LaterSeats {
+    // The command of an event is queued; a refused one leaves the seats.
+    fn queue(&mut self, event: &[u8]) {
+        match self.seats.queue(words::byte_at(event, SEAT_AT), queued_bytes(event)) {
+            Ok(seats) => {
+                self.seats = seats;
+                self.sum = bench::plain(0).folded(self.sum);
+            }
+            Err(refusal) => self.sum = refusal.told().folded(self.sum),
+        }
+    }
+
+    // A turn is taken; where none was served the seats stay. Its code is folded in, whether a command was carried out, and then the record.
+    fn turn(&mut self) {
+        match self.seats.turn() {
+            Ok(Some(turned)) => {
+                self.sum = with_bytes(mixed(mixed(self.sum, 0), 1), &turned.record);
+                self.seats = turned.seats;
+            }
+            Ok(None) => self.sum = mixed(mixed(self.sum, 0), 0),
+            Err(unsound) => self.sum = mixed(mixed(self.sum, u64::from(unsound.code())), 0),
+        }
     }
 }
 
@@ -144,7 +151,7 @@ fn queued_at(seats: Seats, sum: u64, event: &[u8]) -> LaterSeats {
 fn queueing(seats: Seats, sum: u64, events: &[u8]) -> LaterSeats {
     let mut later = LaterSeats { seats, sum };
     for i in 0..events.len() / EVENT {
-        later = queued_at(later.seats, later.sum, &events[i * EVENT..]);
+        later.queue(&events[i * EVENT..]);
     }
     later
 }
@@ -162,24 +169,11 @@ pub fn timing_queue(waiting: &[u8], events: &[u8], times: u32) -> u64 {
     with_seats(sum, &last)
 }
 
-// A turn is taken; where none was served the seats stay.
-fn turned_at(seats: Seats, sum: u64) -> LaterSeats {
-    let turned = seats.turn();
-    let sum = with_served(sum, &turned);
-    match turned {
-        Ok(Some(turned)) => LaterSeats {
-            seats: turned.seats,
-            sum,
-        },
-        _ => LaterSeats { seats, sum },
-    }
-}
-
 // So many turns are taken.
 fn turning(seats: Seats, sum: u64, turns: u32) -> LaterSeats {
     let mut later = LaterSeats { seats, sum };
     for _ in 0..turns {
-        later = turned_at(later.seats, later.sum);
+        later.turn();
     }
     later
 }
@@ -259,30 +253,27 @@ fn with_changed_bench(seats: Seats, event: &[u8]) -> Seats {
     }
 }
 
-// One event: a queueing, a turn, or a change of the state itself, as no call makes it.
-fn happened(seats: Seats, sum: u64, event: &[u8]) -> LaterSeats {
-    match words::byte_at(event, 0) {
-        0 => queued_at(seats, sum, event),
-        1 => turned_at(seats, sum),
-        2 => LaterSeats {
-            seats: with_changed_queue(seats, event),
-            sum,
-        },
-        _ => LaterSeats {
-            seats: with_changed_bench(seats, event),
-            sum,
-        },
+impl LaterSeats {
+    // One event: a queueing, a turn, or a change of the state itself, as no call makes it.
+    fn event(&mut self, event: &[u8]) {
+        match words::byte_at(event, 0) {
+            0 => self.queue(event),
+            1 => self.turn(),
+            2 => self.seats = with_changed_queue(self.seats, event),
+            _ => self.seats = with_changed_bench(self.seats, event),
+        }
     }
 }
 
 /// Four seats on a fresh bench, and all these events one after another; the whole state behind each.
 pub fn timing_seats(events: &[u8]) -> u64 {
-    let mut seats = Seats::fresh();
-    let mut sum: u64 = 0;
+    let mut later = LaterSeats {
+        seats: Seats::fresh(),
+        sum: 0,
+    };
     for i in 0..events.len() / EVENT {
-        let later = happened(seats, sum, &events[i * EVENT..]);
-        seats = later.seats;
-        sum = with_seats(later.sum, &seats);
+        later.event(&events[i * EVENT..]);
+        later.sum = with_seats(later.sum, &later.seats);
     }
-    sum
+    later.sum
 }
