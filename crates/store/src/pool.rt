@@ -3,7 +3,7 @@
 ghost use Rattle.std.specs.Prelude.{◌+◌, ◌*◌, ◌/◌, ◌<◌, ◌≤◌, min, ◌≡◌, length, get_or};
 ghost use Rattle.wire.specs.Table.{rule_of};
 ghost use Rattle.store.specs.Words.{no_command, commands_in, head_of, inserted};
-ghost use Rattle.store.specs.Pool.{words_after};
+ghost use Rattle.store.specs.Pool.{in_use, size_of, start_of, words_after};
 ghost use Rattle.store.specs.PoolSteps.{command_in, raised};
 ghost use Rattle.store.specs.GroupSteps.{words_in, words_at};
 
@@ -20,6 +20,46 @@ pub(crate) struct Entry {
     pub head: u32,
     pub first: u32,
     pub second: u32,
+}
+
+/// The entries that a macro counts; none for a number that no macro has.
+fn count_at(counts: [u8; 8], m: u8) -> u8
+    ensures { result ≡ get_or counts m 0 }
+{
+    counts.get(m as usize).copied().unwrap_or(0)
+}
+
+/// Is macro m open or closed?
+// `opened == m` and no Option: it is asked of every number, and of 255 it says yes while none is open (`in_use`).
+fn in_use(closed: [bool; 8], opened: u8, m: u8) -> bool
+    ensures { result ≡ in_use closed opened m }
+{
+    closed.get(m as usize).copied().unwrap_or(false) || opened == m
+}
+
+/// The entries that macro m has in the pool.
+#[tactic(auto, unfolding(crate::specs::Pool::size_of))]
+pub(crate) fn size_of(counts: [u8; 8], closed: [bool; 8], opened: u8, m: u8) -> usize
+    ensures { (result ≡ size_of counts closed opened m) × (result ≤ 255) }
+{
+    if in_use(closed, opened, m) {
+        count_at(counts, m) as usize
+    } else {
+        0
+    }
+}
+
+/// Where macro m starts in the pool: behind the macros in use below it.
+// By value. Tried: as a method of the lent tally; slower (a run of 512 macro commands 42 us of 37), for the compiler then adds up anew for each use, so
+// `size` and `start` of a tally hand its three fields on.
+pub(crate) fn start_of(counts: [u8; 8], closed: [bool; 8], opened: u8, m: u8) -> usize
+    ensures { result ≡ start_of counts closed opened m }
+{
+    let mut sum: usize = 0;
+    for i in 0..m {
+        sum += size_of(counts, closed, opened, i);
+    }
+    sum
 }
 
 /// Where entries that start here end, and no further than the pool.

@@ -20,21 +20,21 @@ slice_bounds-put_decided-count g c = omega (arith, room_left c.loop-number.invar
 pub slice_bounds-put_decided-start : goal.slice_bounds-put_decided-start
 slice_bounds-put_decided-start g c = omega (arith, room_left c.loop-number.invariant (given_next c.in-Some.is c.next.ensures) c.requires.fits)
 
-pub loop-number-smaller-in-Ok : goal.loop-number-smaller-in-Ok
-loop-number-smaller-in-Ok g c = one_less c.loop-number.invariant (given_next c.in-Some.is c.next.ensures)
+pub loop-number-smaller-in-Err : goal.loop-number-smaller-in-Err
+loop-number-smaller-in-Err g c = one_less c.loop-number.invariant (given_next c.in-Some.is c.next.ensures)
 
-pub loop-number-preserved-in-Ok : goal.loop-number-preserved-in-Ok
-loop-number-preserved-in-Ok g c =
-    given_accepted c.loop-number.invariant (given_next c.in-Some.is c.next.ensures) c.requires.fits c.decide_read-decision.result c.decide_read-decision.ensures
-    c.put_decided.ensures c.in-Ok.is c.take_effect-works.ensures.value c.take_effect-works.ensures.pool_after
+pub loop-number-preserved-in-Err : goal.loop-number-preserved-in-Err
+loop-number-preserved-in-Err g c =
+    given_refused c.loop-number.invariant (given_next c.in-Some.is c.next.ensures) c.requires.fits c.decide_read-decision.result c.decide_read-decision.ensures
+    c.put_decided.ensures c.in-Err.is
 
 pub loop-number-smaller : goal.loop-number-smaller
 loop-number-smaller g c = one_less c.loop-number.invariant (given_next c.in-Some.is c.next.ensures)
 
 pub loop-number-preserved : goal.loop-number-preserved
 loop-number-preserved g c =
-    given_refused c.loop-number.invariant (given_next c.in-Some.is c.next.ensures) c.requires.fits c.decide_read-decision.result c.decide_read-decision.ensures
-    c.put_decided.ensures c.in_default-decision.is
+    given_accepted c.loop-number.invariant (given_next c.in-Some.is c.next.ensures) c.requires.fits c.decide_read-decision.result c.decide_read-decision.ensures
+    c.put_decided.ensures c.in-Ok.is c.take_effect-works.ensures.value c.take_effect-works.ensures.pool_after
 
 pub returns-clause-pool_after : goal.returns-clause-pool_after
 returns-clause-pool_after g c = (none_given c.loop-number.invariant (given_none _ _ _ c.in_default.is c.next.ensures)).0
