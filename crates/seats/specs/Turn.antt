@@ -22,15 +22,15 @@ pub record TurnTold : Type 0 where
 abbrev pub stays : ℕ → Seats → TurnTold
 stays code s = record { code = code; records = []; seats = s }
 
--- What is told of a turn in which a command was carried out or the state was not sound; and of any turn.
-abbrev pub served_of : Seats → Result Turned Unsound → TurnTold
-served_of s (Ok r) = record { code = 0; records = r.record ∷ []; seats = r.seats }
-served_of s (Err unsound) = stays 27 s
-
+-- What is told of any turn; and of one in which a command was carried out or the state was not sound, by the state afterwards and the record.
 abbrev pub turned_of : Seats → Result (Option Turned) Unsound → TurnTold
-turned_of s (Ok (Some r)) = served_of s (Ok r)
+turned_of s (Ok (Some r)) = record { code = 0; records = r.record ∷ []; seats = r.seats }
 turned_of s (Ok None) = stays 0 s
 turned_of s (Err unsound) = stays 27 s
+
+abbrev pub served_of : Seats → Seats → Result (List ℕ) Unsound → TurnTold
+served_of s after (Ok r) = record { code = 0; records = r ∷ []; seats = after }
+served_of s after (Err unsound) = stays 27 s
 
 -- The code that its oldest command gets as it is carried out.
 abbrev pub code_at : Seats → ℕ → ℕ
