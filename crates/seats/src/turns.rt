@@ -65,7 +65,7 @@ fn next_waiting(queues: &[Queue; 4], last: u8) -> Option<u8>
 impl Seats {
     // The oldest command of a waiting seat is carried out and leaves its queue, and its record is handed back: 27 where the bench is not sound, by its
     // own judgement.
-    // Tried: the next state handed back; slower (2,800 ns of a turn for 1,600, and 1,980 where the copy that is changed stands behind a return, as it is
+    // Tried: the next state handed back; slower (2,760 ns of a turn for 1,420, and 1,960 where the copy that is changed stands behind a return, as it is
     // filled with zeros before), so a turn changes one copy in place, which it makes first.
     fn serve(&mut self, seat: u8) -> Result<[u8; 12], Unsound>
         requires { (seat < 4) × (waits self.old.queues seat ≡ true) }
