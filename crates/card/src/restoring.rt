@@ -103,13 +103,13 @@ fn commands_behind(s: &[u8], at: usize, count: u32, room: &mut [u8]) -> Result<u
     Ok(pos)
 }
 
-#[tactic(auto, unfolding(crate::specs::Answers::from_card, crate::specs::List::stored_says))]
 /// Writes the raw list that a stored one says at the front of a room, and says how many bytes it has; the rest of the room stays as it was.
 ///
 /// # Errors
 ///
 /// At each number 34 and 35, then 36, 5, 38 or 8 at once; 9 or 10 behind a command's last number; 37, 20 and 24 behind the last command. The room is then as
 /// it was. Rules: "Lists on a memory card".
+#[tactic(auto, unfolding(crate::specs::Answers::from_card, crate::specs::List::stored_says))]
 pub fn from_card(s: &[u8], room: &mut [u8]) -> Result<usize, Refused>
     ensures result_value { answer_of result ≡ (from_card s.now room.old).answer }
     ensures room_after { room.new ≡ (from_card s.now room.old).room }

@@ -93,7 +93,8 @@ fn put_command(room: &mut [u8], at: usize, command: Command) -> usize
 }
 
 // Puts the commands of a raw list at the front of a buffer, in stored form: how many they are, and how many bytes they have there. In stored form none is
-// longer than it was. (It counts the commands itself: how many there are is wanted behind the last, when an `enumerate` is used up.)
+// longer than it was. (It counts the commands itself: how many there are is wanted
+// behind the last, when an `enumerate` is used up. A `match`: with `map_err` and `?` a list took a quarter longer.)
 fn pack(list: &[u8], buffer: &mut [u8]) -> Result<(u32, usize), Refused>
     requires list_len_bound { length list.now ≤ 4096 }
     requires value { 4096 ≡ length buffer.old }
@@ -103,11 +104,15 @@ fn pack(list: &[u8], buffer: &mut [u8]) -> Result<(u32, usize), Refused>
     let mut count = 0;
     for rest in Commands::new(list) {
         count += 1;
-        let command = wire::read_command(rest).map_err(|refusal| Refused {
-            number: count,
-            fault: Fault::Wire(refusal),
-        })?;
-        pos = put_command(buffer, pos, command);
+        match wire::read_command(rest) {
+            Ok(command) => pos = put_command(buffer, pos, command),
+            Err(refusal) => {
+                return Err(Refused {
+                    number: count,
+                    fault: Fault::Wire(refusal),
+                });
+            }
+        }
     }
     Ok((count, pos))
 }
@@ -122,13 +127,13 @@ fn put_list(room: &mut [u8], count: u32, commands: &[u8])
     words::put_at(room, commands_at, commands);
 }
 
-#[tactic(auto, unfolding(crate::specs::Answers::to_card))]
 /// Writes the stored form of a raw list at the front of a room, and says how many bytes it has; the rest of the room stays as it was.
 ///
 /// # Errors
 ///
 /// 20 for a list of more than 4,096 bytes; then the first bad command's code of 1 to 10, with its number; then 24. The room is then as it was. Rules: "Lists
 /// on a memory card".
+#[tactic(auto, unfolding(crate::specs::Answers::to_card))]
 pub fn to_card(list: &[u8], room: &mut [u8]) -> Result<usize, Refused>
     ensures result_value { answer_of result ≡ (to_card list.now room.old).answer }
     ensures room_after { room.new ≡ (to_card list.now room.old).room }
