@@ -150,8 +150,10 @@ fn gather_lines(raw: &[u8], buffer: &mut [u8]) -> Result<usize, Refusal>
     let mut end = 0;
     for rest in Commands::new(raw) {
         number += 1;
-        let command = offer_at(rest).map_err(|fault| Refusal::BadLine(number, fault))?;
-        end = put_line(buffer, end, command);
+        match offer_at(rest) {
+            Ok(command) => end = put_line(buffer, end, command),
+            Err(fault) => return Err(Refusal::BadLine(number, fault)),
+        }
     }
     Ok(end)
 }
