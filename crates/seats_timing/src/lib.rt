@@ -125,7 +125,10 @@ pub struct LaterSeats {
 impl LaterSeats {
     // The command of an event is queued; a refused one leaves the seats.
     fn queue(&mut self, event: &[u8]) {
-        match self.seats.queue(words::byte_at(event, SEAT_AT), queued_bytes(event)) {
+        match self
+            .seats
+            .queue(words::byte_at(event, SEAT_AT), queued_bytes(event))
+        {
             Ok(seats) => {
                 self.seats = seats;
                 self.sum = bench::plain(0).folded(self.sum);
