@@ -32,7 +32,7 @@ pub use wire::{
 };
 pub use words::{Code, code_of};
 
-// The code of a picture that is asked for with the power off.
+// The code of a picture that is asked for with the power off: a name of the number that `told` says and a second writes beside its group.
 const DARK: u8 = 26;
 
 /// The state: the camera, the macro store, and the numbers of the latest run.

@@ -31,7 +31,7 @@ pub struct Raw<'a> {
 
 impl<'a> Raw<'a> {
     /// A whole list.
-    pub fn new(list: &'a [u8]) -> Raw<'a>
+    pub(crate) fn new(list: &'a [u8]) -> Raw<'a>
         requires { length list.now ≤ 4096 }
         ensures { (result.left.left.now ≡ list.now) × (result.number ≡ 0) }
     {
@@ -74,7 +74,7 @@ pub struct Lines<'a> {
 
 impl<'a> Lines<'a> {
     /// A whole text.
-    pub fn new(text: &'a [u8]) -> Lines<'a>
+    pub(crate) fn new(text: &'a [u8]) -> Lines<'a>
         requires { length text.now ≤ 32768 }
         ensures { (result.left.now ≡ text.now) × (result.number ≡ 0) }
     {
