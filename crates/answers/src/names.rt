@@ -1,25 +1,29 @@
 //! The commands by name, as the table of commands has them, in lower case, with their arguments.
+ghost use Rattle.std.specs.Prelude.{◌≡◌, length};
+
 use script::output;
 use wire::{Form, Kind, Layout};
 
-// The name of a command.
-fn name_of(form: Form) -> &'static [u8] {
+// The name of a command, filled up with blanks.
+fn name_of(form: Form) -> &'static [u8]
+    ensures { 10 ≡ length result.now }
+{
     match form {
-        Form::ImgPwr => b"img_pwr",
+        Form::ImgPwr => b"img_pwr   ",
         Form::ImgRegion => b"img_region",
-        Form::ImgTrack => b"img_track",
-        Form::TrkAlg => b"trk_alg",
-        Form::TrkLoop => b"trk_loop",
-        Form::ImgImage => b"img_image",
-        Form::TrkGoal => b"trk_goal",
-        Form::TlmFlush => b"tlm_flush",
+        Form::ImgTrack => b"img_track ",
+        Form::TrkAlg => b"trk_alg   ",
+        Form::TrkLoop => b"trk_loop  ",
+        Form::ImgImage => b"img_image ",
+        Form::TrkGoal => b"trk_goal  ",
+        Form::TlmFlush => b"tlm_flush ",
         Form::FlushAuto => b"flush_auto",
-        Form::Open => b"open",
-        Form::Close => b"close",
-        Form::Run => b"run",
-        Form::Wait => b"wait",
-        Form::Stop => b"stop",
-        Form::Clear => b"clear",
+        Form::Open => b"open      ",
+        Form::Close => b"close     ",
+        Form::Run => b"run       ",
+        Form::Wait => b"wait      ",
+        Form::Stop => b"stop      ",
+        Form::Clear => b"clear     ",
     }
 }
 

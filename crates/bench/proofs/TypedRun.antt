@@ -24,11 +24,11 @@ use Rattle.bench.specs.declared.lists.RunRefusal.{RunRefusal}
 use Rattle.bench.specs.declared.lists.typed.TypedRefusal.{TypedRefusal}
 use Rattle.bench.specs.Status.{bench_sound, sound_check}
 use Rattle.bench.specs.Run.{RunTold, ran_of}
-use Rattle.bench.specs.Typed.{typed_found, typed_report, begun_finding, TypedTold, typed_ran_of, typed_for, typed_of, typed_room}
+use Rattle.bench.specs.Typed.{typed_found, typed_report, of_text, of_run, begun_finding, TypedTold, typed_ran_of, typed_for, typed_of, typed_room}
 use Rattle.walk.proofs.Rests.{rests_512}
 use Rattle.bench.proofs.InTurn.{typed_even}
 use Rattle.bench.proofs.Sources.{text_commands, text_numbers}
-use Rattle.bench.specs.Steps.{Even, judged_code, judged_run, judged_room, of_text, of_run}
+use Rattle.bench.specs.Steps.{Even, judged_code, judged_run, judged_room}
 
 -- What a typed run tells, from what a run of the same commands does; so of each refusal of that run.
 abbrev typed_told : RunTold → TypedTold

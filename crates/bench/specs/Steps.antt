@@ -16,7 +16,6 @@ use Rattle.store.specs.declared.tally.Tally.{Tally}
 use Rattle.store.specs.declared.tally.Survey.{Survey}
 use Rattle.store.specs.TallySteps.{tally_of, bare_of, store_of, tally_checks, tally_after, pool_after, Tallied}
 use Rattle.walk.specs.Walk.{rests}
-use Rattle.text.specs.declared.findings.Refusal.{Refusal as TextRefusal}
 use Rattle.report.specs.declared.Latest.{Latest}
 use Rattle.report.specs.Record.{report_room}
 use Rattle.bench.specs.declared.Bench.{Bench}
@@ -24,7 +23,6 @@ use Rattle.bench.specs.declared.Works.{Works}
 use Rattle.bench.specs.declared.Executed.{Executed}
 use Rattle.bench.specs.declared.Rejection.{Rejection}
 use Rattle.bench.specs.declared.lists.RunRefusal.{RunRefusal}
-use Rattle.bench.specs.declared.lists.typed.TypedRefusal.{TypedRefusal}
 use Rattle.bench.specs.Status.{bench_sound, sound_check}
 use Rattle.bench.specs.Carry.{Outcome, verdict_of, camera_after, dark_check}
 use Rattle.bench.specs.Run.{Listed, run_rests, kit_part, ended_as, begun_code, RunTold}
@@ -154,13 +152,3 @@ judged_run b kit numbers rs room = judged_for (judged_code b room) b kit numbers
 
 abbrev pub judged_room : Bench → List ℕ → List ℕ → List (List ℕ) → List ℕ → List ℕ
 judged_room b kit numbers rs room = cond (eqb (judged_code b room) 0) (written (report_by b kit numbers rs) room) room
-
--- The refusal of a typed run, from that of its text and from that of a run.
-abbrev pub of_text : TextRefusal → TypedRefusal
-of_text TextRefusal.TooLong = TypedRefusal.TooLong
-of_text (TextRefusal.BadLine number fault) = TypedRefusal.BadLine number fault
-
-abbrev pub of_run : RunRefusal → TypedRefusal
-of_run RunRefusal.ListTooLong = TypedRefusal.TooLong
-of_run RunRefusal.RoomTooSmall = TypedRefusal.RoomTooSmall
-of_run RunRefusal.Unsound = TypedRefusal.Unsound

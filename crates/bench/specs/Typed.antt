@@ -7,10 +7,12 @@ use Rattle.wire.specs.Judge.{plain}
 use Rattle.walk.specs.Walk.{rests}
 use Rattle.report.specs.Record.{report_room}
 use Rattle.text.specs.declared.findings.Finding.{Finding}
+use Rattle.text.specs.declared.findings.Refusal.{Refusal as TextRefusal}
 use Rattle.text.specs.Findings.{finding, nothing, whole, first_found, told_fault}
 use Rattle.text.specs.Assemble.{line_numbers, bytes_in, bad_line}
 use Rattle.bench.specs.declared.Bench.{Bench}
 use Rattle.bench.specs.declared.lists.Ran.{Ran}
+use Rattle.bench.specs.declared.lists.RunRefusal.{RunRefusal}
 use Rattle.bench.specs.declared.lists.typed.TypedRefusal.{TypedRefusal}
 use Rattle.bench.specs.Status.{sound_check}
 use Rattle.bench.specs.Run.{Listed, run_list, ended_with, report_with}
@@ -39,6 +41,16 @@ typed_end b kit text = ended_with b kit (line_numbers text) (bytes_in text)
 
 abbrev pub typed_report : Bench → List ℕ → List ℕ → List ℕ
 typed_report b kit text = report_with b kit (line_numbers text) (bytes_in text)
+
+-- The refusal of a typed run, from that of its text and from that of a run.
+abbrev pub of_text : TextRefusal → TypedRefusal
+of_text TextRefusal.TooLong = TypedRefusal.TooLong
+of_text (TextRefusal.BadLine number fault) = TypedRefusal.BadLine number fault
+
+abbrev pub of_run : RunRefusal → TypedRefusal
+of_run RunRefusal.ListTooLong = TypedRefusal.TooLong
+of_run RunRefusal.RoomTooSmall = TypedRefusal.RoomTooSmall
+of_run RunRefusal.Unsound = TypedRefusal.Unsound
 
 -- What is told of each refusal, and its line; and of an answer.
 abbrev pub begun_finding : TypedRefusal → Finding

@@ -29,9 +29,9 @@ use Rattle.walk.proofs.Turns.{Turn, turn}
 use Rattle.card.specs.Number.{number_bytes}
 use Rattle.card.specs.Command.{arguments_in, numbers_bytes, stored_command}
 use Rattle.card.specs.List.{stored_commands, stored_bytes, Said, said, bad, onto, raw_next, raw_from, raw_says}
-use Rattle.card.specs.Answers.{Result, Moved, told_fault, stored_by, to_card}
+use Rattle.card.specs.Answers.{Result, Moved, told_fault, no_room, stored_by, to_card}
 use Rattle.card.specs.Answers as answers
-use Rattle.card.specs.Steps.{no_room, Packs}
+use Rattle.card.specs.Steps.{Packs}
 use Rattle.card.proofs.Commands.{drop_bytes}
 use Rattle.card.proofs.Lists.{RawTaken, raw_taken}
 use Rattle.card.proofs.Bounds.{command_short}

@@ -4,6 +4,7 @@ use Rattle.std.specs.Prelude.{ℕ, List, [], ◌∷◌, ◌++◌, cond, not, len
 use Rattle.words.specs.BigEndian.{has_room}
 use Rattle.words.specs.Codes.{Check, ◌when◌, first_of}
 use Rattle.wire.specs.declared.kinds.Command.{Command}
+use Rattle.wire.specs.declared.judging.Refusal.{Refusal}
 use Rattle.wire.specs.declared.judging.Told.{Told}
 use Rattle.wire.specs.Judge.{plain, told_of}
 use Rattle.wire.specs.Write.{list_bytes}
@@ -21,6 +22,13 @@ told_fault Fault.Overlong = plain 35
 told_fault Fault.NotOne = plain 36
 told_fault Fault.LeftOver = plain 37
 told_fault Fault.BadFlag = plain 38
+
+-- A fault that belongs to no command, as too little room does.
+abbrev pub of_none : Fault → Refused
+of_none fault = record { number = 0; fault = fault }
+
+abbrev pub no_room : Refused
+no_room = of_none (Fault.Wire Refusal.NoRoom)
 
 -- What is told of a fault and a number.
 abbrev pub told_refused : Refused → Told

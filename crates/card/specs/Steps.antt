@@ -4,7 +4,6 @@ use Rattle.std.proofs.lemmas.List.Edits.{sets}
 use Rattle.words.specs.Codes.{◌when◌}
 use Rattle.wire.specs.declared.kinds.Command.{Command}
 use Rattle.wire.specs.declared.kinds.Parts.{Parts}
-use Rattle.wire.specs.declared.judging.Refusal.{Refusal}
 use Rattle.wire.specs.declared.table.Form.{Form}
 use Rattle.wire.specs.Kind.{parts_with}
 use Rattle.wire.specs.Write.{command_bytes, list_bytes}
@@ -15,13 +14,6 @@ use Rattle.card.specs.Reading.{Got, got, refused, passing}
 use Rattle.card.specs.Number.{endless}
 use Rattle.card.specs.List.{stored_commands, Said, said, bad}
 use Rattle.card.specs.Answers.{told_fault}
-
--- A fault that belongs to no command, as too little room does.
-abbrev pub of_none : Fault → Refused
-of_none fault = record { number = 0; fault = fault }
-
-abbrev pub no_room : Refused
-no_room = of_none (Fault.Wire Refusal.NoRoom)
 
 -- What the readers of a number and of a command answer, and that of a form's arguments.
 abbrev pub got_of : {A : Type 0} → Result (A × ℕ) Fault → Got A

@@ -1,8 +1,7 @@
 //! What came of moving a list to a card or from one: how many bytes were written, or why none was.
 ghost use Rattle.std.specs.Prelude.{◌≡◌};
 ghost use Rattle.card.specs.declared.answers.Fault.TheVariants.{Wire};
-ghost use Rattle.card.specs.Answers.{told_fault, told_refused, answer_of};
-ghost use Rattle.card.specs.Steps.{of_none, no_room};
+ghost use Rattle.card.specs.Answers.{told_fault, told_refused, of_none, no_room, answer_of};
 
 use wire::{Refusal, Tell, Told};
 use words::NoRoom;

@@ -4,6 +4,23 @@ ghost use Rattle.std.specs.Prelude.{◌≤◌, length, IfSome};
 use super::read_input;
 use std::io::{Read, Write};
 
+// The room of a line that says what failed: a program's name and some words.
+const LINE: usize = 128;
+
+// A line in a program's name that says what failed, written at once, so that no other program's line comes between its parts; a line that is longer than
+// its room goes part by part.
+fn say<W: Write>(program: &str, failed: &str, errors: &mut W) {
+    let mut line = [0; LINE];
+    let mut rest = &mut line[..];
+    let whole = writeln!(rest, "{program}: {failed}").is_ok();
+    let put = LINE.saturating_sub(rest.len());
+    if whole {
+        let _ = errors.write_all(&line[..put]);
+    } else {
+        let _ = writeln!(errors, "{program}: {failed}");
+    }
+}
+
 /// All that a reader has, in the front of a room. Where it cannot be read, a line in the program's name says so, and there is nothing.
 pub fn read_whole<'a, R: Read, W: Write>(
     program: &str,
@@ -14,7 +31,7 @@ pub fn read_whole<'a, R: Read, W: Write>(
     ensures { IfSome result (λ read. length read.now ≤ length room.old) }
 {
     let Ok(bytes) = read_input(reader, room) else {
-        let _ = writeln!(errors, "{program}: standard input cannot be read");
+        say(program, "standard input cannot be read", errors);
         return None;
     };
     Some(&room[..bytes])
@@ -28,7 +45,7 @@ pub fn write_whole<O: Write, W: Write>(
     made: &[u8],
 ) -> bool {
     if output.write_all(made).is_err() {
-        let _ = writeln!(errors, "{program}: standard output cannot be written");
+        say(program, "standard output cannot be written", errors);
         return false;
     }
     true

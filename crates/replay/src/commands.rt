@@ -58,18 +58,19 @@ fn carried_line(out: &mut [u8], used: usize, carried: &Result<Bench, Rejection>)
 }
 
 /// 01, the bytes of a command: `command CODE PAR VALUE LOW HIGH`.
-pub fn carry_out(state: State, s: &[u8], out: &mut [u8]) -> State {
+pub fn carry_out(state: &mut State, s: &[u8], out: &mut [u8]) {
     let place = state.place;
     let bytes = script::take_short(s, place.at);
     if !bytes.whole {
-        return state.went_on(place.bad(out));
+        state.place = place.bad(out);
+        return;
     }
     let carried = state.bench.carry_out_bytes(script::bytes(s, bytes));
     let used = carried_line(out, place.used, &carried);
-    State {
-        bench: carried.unwrap_or(state.bench),
-        place: place.answered(bytes.to, used),
+    if let Ok(bench) = carried {
+        state.bench = bench;
     }
+    state.place = place.answered(bytes.to, used);
 }
 
 fn decoded_line(
@@ -115,14 +116,15 @@ fn decoded(flag: u8, row: u8, first: u32, second: u32) -> Command {
 }
 
 /// 09, a flag, a row and two arguments of four bytes: `decoded CODE PAR VALUE LOW HIGH CODE`, with the second code of the writing, and the bytes.
-pub fn carry_out_decoded(state: State, s: &[u8], out: &mut [u8]) -> State {
+pub fn carry_out_decoded(state: &mut State, s: &[u8], out: &mut [u8]) {
     let place = state.place;
     let flag = script::take(s, place.at, 1);
     let row = script::take(s, flag.to, 1);
     let first = script::take(s, row.to, 4);
     let second = script::take(s, first.to, 4);
     if !second.whole {
-        return state.went_on(place.bad(out));
+        state.place = place.bad(out);
+        return;
     }
     let command = decoded(
         words::byte_at(s, flag.from),
@@ -132,8 +134,8 @@ pub fn carry_out_decoded(state: State, s: &[u8], out: &mut [u8]) -> State {
     );
     let carried = state.bench.carry_out(command);
     let used = decoded_line(out, place.used, command, &carried);
-    State {
-        bench: carried.unwrap_or(state.bench),
-        place: place.answered(second.to, used),
+    if let Ok(bench) = carried {
+        state.bench = bench;
     }
+    state.place = place.answered(second.to, used);
 }

@@ -5,10 +5,10 @@ use script::rooms::FILL;
 use script::{Place, output, rooms};
 
 /// 02: `status` and the bytes of the frame, or `status CODE`.
-pub fn status(state: State, out: &mut [u8]) -> Place {
+pub fn status(state: &mut State, out: &mut [u8]) {
     let place = state.place;
     let used = answers::status(out, place.used, &state.bench.status());
-    place.answered(place.at, used)
+    state.place = place.answered(place.at, used);
 }
 
 // The code of writing a frame and, where that is 0, the bytes written.

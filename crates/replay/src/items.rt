@@ -21,21 +21,13 @@ impl State {
     }
 
     /// Is there another item to take?
-    pub fn goes_on(self, s: &[u8]) -> bool {
+    pub fn goes_on(&self, s: &[u8]) -> bool {
         self.place.goes_on(s)
     }
 
     // 04: a fresh bench again; nothing is printed.
-    fn renewed(self) -> State {
-        State {
-            bench: Bench::fresh(),
-            ..self
-        }
-    }
-
-    /// After an item that left the bench as it was.
-    pub fn went_on(self, place: Place) -> State {
-        State { place, ..self }
+    fn renew(&mut self) {
+        self.bench = Bench::fresh();
     }
 }
 
@@ -80,28 +72,28 @@ pub fn two_lists(s: &[u8], at: usize) -> Option<Lists<'_>> {
     })
 }
 
-/// Takes one item.
-pub fn item(state: State, s: &[u8], out: &mut [u8]) -> State {
+/// Takes one item. The state is lent, so that the bench is not copied where it stays.
+pub fn item(state: &mut State, s: &[u8], out: &mut [u8]) {
     let first = script::take(s, state.place.at, 1);
     let place = state.place.answered(first.to, state.place.used);
-    let state = state.went_on(place);
+    state.place = place;
     match words::byte_at(s, first.from) {
         0 => seconds::second(state, out),
         1 => commands::carry_out(state, s, out),
-        2 => state.went_on(frames::status(state, out)),
+        2 => frames::status(state, out),
         3 => lists::run(state, s, out),
-        4 => state.renewed(),
-        5 => state.went_on(lists::shown(place, s, out)),
-        6 => state.went_on(frames::read(place, s, out)),
-        7 => state.went_on(commands::read(place, s, out)),
+        4 => state.renew(),
+        5 => state.place = lists::shown(place, s, out),
+        6 => state.place = frames::read(place, s, out),
+        7 => state.place = commands::read(place, s, out),
         8 => seconds::pass(state, s, out),
         9 => commands::carry_out_decoded(state, s, out),
-        10 => state.went_on(texts::assemble(place, s, out)),
-        11 => state.went_on(texts::list(place, s, out)),
+        10 => state.place = texts::assemble(place, s, out),
+        11 => state.place = texts::list(place, s, out),
         12 => texts::run(state, s, out),
-        13 => state.went_on(texts::line(place, s, out)),
-        14 => state.went_on(tags::own(state, s, out)),
-        15 => state.went_on(tags::read(place, s, out)),
-        _ => state.went_on(place.bad(out)),
+        13 => state.place = texts::line(place, s, out),
+        14 => tags::own(state, s, out),
+        15 => state.place = tags::read(place, s, out),
+        _ => state.place = place.bad(out),
     }
 }

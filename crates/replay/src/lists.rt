@@ -14,20 +14,21 @@ fn lines(out: &mut [u8], used: usize, ran: &Result<Ran, RunRefusal>, room: &[u8]
 
 /// 03, a room's length of two bytes, the kit's list and the pupil's: `run CODE KIT PUPIL`, a line `record` for each record, and `rest same`, or
 /// `rest` and the place of the first byte behind the records that was changed.
-pub fn run(state: State, s: &[u8], out: &mut [u8]) -> State {
+pub fn run(state: &mut State, s: &[u8], out: &mut [u8]) {
     let place = state.place;
     let Some(lists) = two_lists(s, place.at) else {
-        return state.went_on(place.bad(out));
+        state.place = place.bad(out);
+        return;
     };
     let mut room = [FILL; rooms::LARGEST];
     let length = rooms::capped(lists.length, rooms::LARGEST);
     let room = &mut room[..length];
     let ran = state.bench.run(lists.kit, lists.pupil, room);
     let used = lines(out, place.used, &ran, room);
-    State {
-        bench: reports::bench_after(state.bench, ran),
-        place: place.answered(lists.end, used),
+    if let Ok(ran) = ran {
+        state.bench = ran.bench;
     }
+    state.place = place.answered(lists.end, used);
 }
 
 /// 05, the kit's list, the pupil's, a sender and a number of four bytes: `shown` and the bytes, nothing behind it where there are none.

@@ -1,5 +1,5 @@
 //! What a run put into its room.
-use bench::{Bench, Ran};
+use bench::Ran;
 use script::{output, rooms};
 
 // The end of a run's line, ` KIT PUPIL`, a line `record` for each record, and the rest of the room behind them.
@@ -18,9 +18,4 @@ pub fn lines<E>(out: &mut [u8], used: usize, ran: &Result<Ran, E>, room: &[u8]) 
         Ok(ran) => counted(out, used, ran.kit, ran.pupil, room),
         Err(_) => counted(out, used, 0, 0, room),
     }
-}
-
-/// The bench after a run: a run that was refused leaves it as it was.
-pub fn bench_after<E: Drop>(bench: Bench, ran: Result<Ran, E>) -> Bench {
-    ran.map_or(bench, |ran| ran.bench)
 }

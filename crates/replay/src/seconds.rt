@@ -11,21 +11,16 @@ pub struct Waited {
 }
 
 /// 00: `second CODE N`, and a line `handed CODE NAME ARGS` for each of the N entries.
-pub fn second(state: State, out: &mut [u8]) -> State {
+pub fn second(state: &mut State, out: &mut [u8]) {
     let place = state.place;
-    match state.bench.second() {
+    let used = match state.bench.second() {
         Ok(passed) => {
-            let used = answers::second(out, place.used, &passed.group, &passed.codes);
-            State {
-                bench: passed.bench,
-                place: place.answered(place.at, used),
-            }
+            state.bench = passed.bench;
+            answers::second(out, place.used, &passed.group, &passed.codes)
         }
-        Err(refused) => {
-            let used = answers::no_second(out, place.used, refused);
-            state.went_on(place.answered(place.at, used))
-        }
-    }
+        Err(refused) => answers::no_second(out, place.used, refused),
+    };
+    state.place = place.answered(place.at, used);
 }
 
 fn wait(bench: Bench, seconds: u16) -> Waited {
@@ -49,16 +44,15 @@ fn passed_line(out: &mut [u8], used: usize, entries: u32) -> usize {
 }
 
 /// 08, how many seconds in two bytes: `passed N`, N being the entries that they handed over in all.
-pub fn pass(state: State, s: &[u8], out: &mut [u8]) -> State {
+pub fn pass(state: &mut State, s: &[u8], out: &mut [u8]) {
     let place = state.place;
     let seconds = script::take(s, place.at, 2);
     if !seconds.whole {
-        return state.went_on(place.bad(out));
+        state.place = place.bad(out);
+        return;
     }
     let waited = wait(state.bench, words::half_at(s, seconds.from));
+    state.bench = waited.bench;
     let used = passed_line(out, place.used, waited.entries);
-    State {
-        bench: waited.bench,
-        place: place.answered(seconds.to, used),
-    }
+    state.place = place.answered(seconds.to, used);
 }

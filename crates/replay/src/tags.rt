@@ -46,11 +46,12 @@ fn own_line(
 }
 
 /// 0e, a room's length of one byte: `housekeeping CODE`, or `housekeeping 0 RECEIVED FAILED FAILCODE FREE` and the bytes.
-pub fn own(state: State, s: &[u8], out: &mut [u8]) -> Place {
+pub fn own(state: &mut State, s: &[u8], out: &mut [u8]) {
     let place = state.place;
     let length = script::take(s, place.at, 1);
     if !length.whole {
-        return place.bad(out);
+        state.place = place.bad(out);
+        return;
     }
     let mut room = [FILL; rooms::SHORT];
     let size = usize::from(words::byte_at(s, length.from));
@@ -60,7 +61,7 @@ pub fn own(state: State, s: &[u8], out: &mut [u8]) -> Place {
         &state.bench.housekeeping(),
         &mut room[..size],
     );
-    place.answered(length.to, used)
+    state.place = place.answered(length.to, used);
 }
 
 // The code of writing a frame that was read and, where that is 0, the bytes written.

@@ -80,20 +80,21 @@ fn typed_lines(out: &mut [u8], used: usize, ran: &Result<Ran, TypedRefusal>, roo
 
 /// 0c, a room's length of two bytes, the kit's raw list and a text: `typed CODE LINE PAR VALUE LOW HIGH KIT PUPIL`, then the records and the rest as
 /// 03 has them.
-pub fn run(state: State, s: &[u8], out: &mut [u8]) -> State {
+pub fn run(state: &mut State, s: &[u8], out: &mut [u8]) {
     let place = state.place;
     let Some(lists) = two_lists(s, place.at) else {
-        return state.went_on(place.bad(out));
+        state.place = place.bad(out);
+        return;
     };
     let mut room = [FILL; rooms::LARGEST];
     let length = rooms::capped(lists.length, rooms::LARGEST);
     let room = &mut room[..length];
     let ran = state.bench.run_typed(lists.kit, lists.pupil, room);
     let used = typed_lines(out, place.used, &ran, room);
-    State {
-        bench: reports::bench_after(state.bench, ran),
-        place: place.answered(lists.end, used),
+    if let Ok(ran) = ran {
+        state.bench = ran.bench;
     }
+    state.place = place.answered(lists.end, used);
 }
 
 /// 0d, a text and a number of four bytes: `line` and the bytes of that line, nothing behind it where there are none.

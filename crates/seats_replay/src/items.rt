@@ -26,30 +26,21 @@ impl State {
     }
 
     // 04: a fresh bench with four empty queues again; nothing is printed.
-    fn renewed(self) -> State {
-        State {
-            seats: Seats::fresh(),
-            ..self
-        }
-    }
-
-    /// After an item that left the seats as they were.
-    pub fn went_on(self, place: Place) -> State {
-        State { place, ..self }
+    fn renew(&mut self) {
+        self.seats = Seats::fresh();
     }
 }
 
-/// Takes one item.
-pub fn item(state: State, s: &[u8], out: &mut [u8]) -> State {
+/// Takes one item. The state is lent, so that the seats are not copied where they stay.
+pub fn item(state: &mut State, s: &[u8], out: &mut [u8]) {
     let first = script::take(s, state.place.at, 1);
-    let place = state.place.answered(first.to, state.place.used);
-    let state = state.went_on(place);
+    state.place = state.place.answered(first.to, state.place.used);
     match words::byte_at(s, first.from) {
         0 => shared::second(state, out),
         1 => queueing::queue(state, s, out),
-        2 => state.went_on(shared::status(&state, out)),
+        2 => shared::status(state, out),
         3 => turns::turn(state, out),
-        4 => state.renewed(),
-        _ => state.went_on(place.bad(out)),
+        4 => state.renew(),
+        _ => state.place = state.place.bad(out),
     }
 }

@@ -17,7 +17,7 @@ fn replay(s: &[u8], out: &mut [u8]) {
         if !state.goes_on(s) {
             break;
         }
-        state = items::item(state, s, out);
+        items::item(&mut state, s, out);
     }
     output::flush(out, state.place.used);
 }

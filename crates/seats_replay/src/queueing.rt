@@ -10,18 +10,19 @@ fn queued_line(out: &mut [u8], used: usize, told: Told) -> usize {
 }
 
 /// 01, a seat and the bytes of a command: `queued CODE PAR VALUE LOW HIGH`.
-pub fn queue(state: State, s: &[u8], out: &mut [u8]) -> State {
+pub fn queue(state: &mut State, s: &[u8], out: &mut [u8]) {
     let place = state.place;
     let seat = script::take(s, place.at, 1);
     let bytes = script::take_short(s, seat.to);
     if !bytes.whole {
-        return state.went_on(place.bad(out));
+        state.place = place.bad(out);
+        return;
     }
     let seat = words::byte_at(s, seat.from);
     let queued = state.seats.queue(seat, script::bytes(s, bytes));
     let used = queued_line(out, place.used, seats::told_of(&queued));
-    State {
-        seats: queued.unwrap_or(state.seats),
-        place: place.answered(bytes.to, used),
+    if let Ok(seats) = queued {
+        state.seats = seats;
     }
+    state.place = place.answered(bytes.to, used);
 }

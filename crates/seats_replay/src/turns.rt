@@ -14,16 +14,12 @@ fn turn_line(out: &mut [u8], used: usize, turned: &Result<Option<Turned>, Unsoun
 }
 
 /// 03: `turn CODE none`, or `turn 0 record` and the bytes of the record.
-pub fn turn(state: State, out: &mut [u8]) -> State {
+pub fn turn(state: &mut State, out: &mut [u8]) {
     let place = state.place;
     let turned = state.seats.turn();
     let used = turn_line(out, place.used, &turned);
-    let place = place.answered(place.at, used);
-    match turned {
-        Ok(Some(turned)) => State {
-            seats: turned.seats,
-            place,
-        },
-        _ => state.went_on(place),
+    if let Ok(Some(turned)) = turned {
+        state.seats = turned.seats;
     }
+    state.place = place.answered(place.at, used);
 }

@@ -393,11 +393,11 @@ pub fn timing_run(kit: &[u8], pupil: &[u8], room: &mut [u8], times: u32) -> u64 
     with_bench(sum, last)
 }
 
-// A bench after some work, and what came out of it folded into one number.
-#[derive(Drop)]
-struct Later {
-    bench: Bench,
-    sum: u64,
+/// A bench after some work, and what came out of it folded into one number.
+#[derive(Clone, Copy)]
+pub struct Later {
+    pub bench: Bench,
+    pub sum: u64,
 }
 
 // So many seconds pass.

@@ -1,8 +1,7 @@
 //! The run of the kit's raw list and then of a list that the pupil typed. The whole text is judged before anything is carried out. Then each line is
 //! carried out as the command that it says, and the command's record has the line's number.
 ghost use Rattle.std.specs.Prelude.{◌≡◌};
-ghost use Rattle.bench.specs.Typed.{begun_finding, ran_finding, typed_ran_of, typed_of, typed_room};
-ghost use Rattle.bench.specs.Steps.{of_text, of_run};
+ghost use Rattle.bench.specs.Typed.{of_text, of_run, begun_finding, ran_finding, typed_ran_of, typed_of, typed_room};
 ghost use Rattle.text.specs.Findings.{finding};
 
 use super::super::Bench;

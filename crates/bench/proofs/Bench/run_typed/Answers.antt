@@ -4,8 +4,7 @@ use mathlib.Core.Path.{◌≡◌, ap, ◌∙◌}
 use borrow.Author.Rules.{rules}
 use Rattle.std.specs.Prelude.{Err}
 use Rattle.text.specs.declared.findings.Finding.{Finding}
-use Rattle.bench.specs.Typed.{typed_ran_of}
-use Rattle.bench.specs.Steps.{of_text, of_run}
+use Rattle.bench.specs.Typed.{typed_ran_of, of_text, of_run}
 use Rattle.bench.proofs.Sources.{passed}
 use Rattle.bench.proofs.TypedRun.{kit_refused, text_refuses, judged_good, lines_even, told_same, room_same, run_passed, run_refused, room_like}
 use Rattle.bench.proofs.Bench.run_typed.Goals as goal
