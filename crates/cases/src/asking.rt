@@ -7,7 +7,10 @@ use wire::Kind;
 /// `step` and `bytes`: the code, with what was wrong with the number, and the status of the bench, which goes on.
 pub fn carried(b: Bench, carried: Result<Bench, Rejection>) -> Bench {
     say::told(bench::told_of(&carried));
-    let next = carried.unwrap_or(b);
+    let next = match carried {
+        Ok(next) => next,
+        Err(_) => b,
+    };
     telling::status(b", ", next);
     next
 }

@@ -27,11 +27,14 @@ pub fn fill(list: &mut [u8], s: &[u8], from: usize) {
 
 /// What a run leaves: one that is refused leaves the bench as it came, and no records.
 pub fn left<E: Drop>(b: Bench, ran: Result<Ran, E>) -> Ran {
-    ran.unwrap_or(Ran {
-        bench: b,
-        kit: 0,
-        pupil: 0,
-    })
+    match ran {
+        Ok(ran) => ran,
+        Err(_) => Ran {
+            bench: b,
+            kit: 0,
+            pupil: 0,
+        },
+    }
 }
 
 // The last of so many records, which ends at this place of the room.

@@ -7,7 +7,9 @@ use walk::Commands;
 /// `do`: the bench after these commands; one that is refused leaves it as it is.
 pub fn commands(mut b: Bench, s: &[u8]) -> Bench {
     for rest in Commands::new(s) {
-        b = b.carry_out_bytes(rest).unwrap_or(b);
+        if let Ok(next) = b.carry_out_bytes(rest) {
+            b = next;
+        }
     }
     b
 }
@@ -23,7 +25,9 @@ pub fn times(mut b: Bench, s: &[u8]) -> Bench {
 /// `pass`: the bench after so many seconds.
 pub fn pass(mut b: Bench, s: &[u8]) -> Bench {
     for _ in 0..words::half_at(s, 0) {
-        b = b.second().map_or(b, |passed| passed.bench);
+        if let Ok(passed) = b.second() {
+            b = passed.bench;
+        }
     }
     b
 }
