@@ -1,5 +1,6 @@
 -- 01, "Two lists, one report": the kit's list, then the pupil's, a record to each command.
-use Rattle.std.specs.Prelude.{ℕ, ◌+◌, List, [], ◌∷◌, ◌++◌, cond, length, ltb, eqb, Result, Ok, Err}
+use Rattle.std.specs.Prelude.{ℕ, ◌+◌, ◌<◌, List, [], ◌∷◌, ◌++◌, cond, length, ltb, eqb, Result, Ok, Err}
+use Rattle.std.proofs.Common.{arith}
 use Rattle.words.specs.BigEndian.{written}
 use Rattle.words.specs.Codes.{Check, ◌when◌, first_of}
 use Rattle.wire.specs.declared.judging.Told.{Told}
@@ -82,6 +83,12 @@ abbrev pub begun_code : RunRefusal → ℕ
 begun_code RunRefusal.ListTooLong = 20
 begun_code RunRefusal.RoomTooSmall = 21
 begun_code RunRefusal.Unsound = 27
+
+-- No refusal of a run has code 0.
+pub begun_some : (refusal : RunRefusal) → 0 < begun_code refusal
+begun_some RunRefusal.ListTooLong = omega arith
+begun_some RunRefusal.RoomTooSmall = omega arith
+begun_some RunRefusal.Unsound = omega arith
 
 -- What a run answers: the code, the bench afterwards, and the number of records for each sender; on a refusal the bench that was handed in, and counts
 -- of zero.

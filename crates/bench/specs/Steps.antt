@@ -1,8 +1,7 @@
 -- Steps of the implementation; no public promise of the product needs them.
 -- A bench at work on a lent pool; what becomes of a command, from the power and the tally of the macros alone; what a survey finds; what executing a
 -- group leaves; and a run whose lists were judged, from wherever its commands come.
-use Rattle.std.specs.Prelude.{ℕ, ◌≡◌, ◌≤◌, ◌<◌, List, [], ◌∷◌, ◌++◌, Bool, true, cond, length, ltb, eqb, Option, Some, None, Result, Ok, Err}
-use Rattle.std.proofs.Common.{arith}
+use Rattle.std.specs.Prelude.{ℕ, ◌≡◌, ◌≤◌, List, [], ◌∷◌, ◌++◌, Bool, true, cond, length, ltb, eqb, Option, Some, None, Result, Ok, Err}
 use Rattle.words.specs.BigEndian.{written}
 use Rattle.words.specs.Codes.{Check, ◌when◌, first_of}
 use Rattle.wire.specs.declared.judging.Refusal.{Refusal}
@@ -22,10 +21,9 @@ use Rattle.bench.specs.declared.Bench.{Bench}
 use Rattle.bench.specs.declared.Works.{Works}
 use Rattle.bench.specs.declared.Executed.{Executed}
 use Rattle.bench.specs.declared.Rejection.{Rejection}
-use Rattle.bench.specs.declared.lists.RunRefusal.{RunRefusal}
 use Rattle.bench.specs.Status.{bench_sound, sound_check}
 use Rattle.bench.specs.Carry.{Outcome, verdict_of, camera_after, dark_check}
-use Rattle.bench.specs.Run.{Listed, run_rests, kit_part, ended_as, begun_code, RunTold}
+use Rattle.bench.specs.Run.{Listed, run_rests, kit_part, ended_as, RunTold}
 use Rattle.bench.specs.Second.{codes_shown, executed_all, handed_codes}
 
 -- A bench at work, its pool lent beside it: what of a bench is at work, before the lengths of its macros are worked out; the bench that works and pool
@@ -95,12 +93,6 @@ surveyed b = record { sound = bench_sound b; tally = tally_of b.store }
 -- What executing a group leaves: the camera, and the codes in their places.
 abbrev pub executed_with : Camera → List Kind → Executed
 executed_with camera ks = record { camera = executed_all camera ks; codes = codes_shown (handed_codes camera ks) }
-
--- No refusal of a run has code 0.
-pub begun_some : (refusal : RunRefusal) → 0 < begun_code refusal
-begun_some RunRefusal.ListTooLong = omega arith
-begun_some RunRefusal.RoomTooSmall = omega arith
-begun_some RunRefusal.Unsound = omega arith
 
 -- A source of commands gives the next one: the commands that were left, each as it finds its list, and the numbers of their records, begin with it; what
 -- it was read as is what the reader says of it.

@@ -4,8 +4,8 @@ ghost use Rattle.std.proofs.Common.{rules};
 ghost use Rattle.words.specs.BigEndian.{written};
 ghost use Rattle.report.specs.Record.{record_length};
 ghost use Rattle.bench.specs.declared.lists.RunRefusal.TheVariants.{Unsound};
-ghost use Rattle.bench.specs.Run.{begun_code, ended_as, ran_of, run_of, run_rests, room_after};
-ghost use Rattle.bench.specs.Steps.{bench_of, AtWork, Even, begun_some, judged_run, judged_room};
+ghost use Rattle.bench.specs.Run.{begun_code, begun_some, ended_as, ran_of, run_of, run_rests, room_after};
+ghost use Rattle.bench.specs.Steps.{bench_of, AtWork, Even, judged_run, judged_room};
 
 mod sources;
 mod typed;

@@ -134,11 +134,11 @@ fn plain(room: &mut [u8], scan: Scan, c: u8) -> Scan {
     }
 }
 
-// Puts the bytes from one place to another so often in all, and answers where they end.
+// Puts the bytes from one place to another so often in all, as far as the room goes, and answers where they end.
 fn repeat(room: &mut [u8], start: usize, end: usize, times: u16) -> usize {
     let size = end.wrapping_sub(start) % SIZES;
     let to = start.wrapping_add(size * usize::from(times));
-    for i in end..to {
+    for i in end..to.min(room.len()) {
         let b = words::byte_at(room, i.wrapping_sub(size));
         rooms::set(room, i, b);
     }

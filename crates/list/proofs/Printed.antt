@@ -23,9 +23,8 @@ use Rattle.bench.specs.declared.Bench.{Bench}
 use Rattle.bench.specs.declared.lists.Ran.{Ran}
 use Rattle.bench.specs.declared.lists.RunRefusal.{RunRefusal}
 use Rattle.bench.specs.Carry.{taken}
-use Rattle.bench.specs.Run.{ran_of, begun_code, run_of, run_rests, kit_part, pupil_part, report_of, room_after}
+use Rattle.bench.specs.Run.{ran_of, begun_code, begun_some, run_of, run_rests, kit_part, pupil_part, report_of, room_after}
 use Rattle.bench.specs.Status.{fresh_bench}
-use Rattle.bench.specs.Steps.{begun_some}
 use Rattle.bench.proofs.Sound.{fresh_sound}
 use Rattle.bench.proofs.Report.{verdict_at}
 use Rattle.bench.proofs.Report as report

@@ -32,7 +32,7 @@ impl State {
 }
 
 /// What an item has that begins with a room's length of one byte and some bytes, and where it ends.
-#[derive(Drop)]
+#[derive(Clone, Copy)]
 pub struct Lent<'a> {
     pub length: u8,
     pub bytes: &'a [u8],
@@ -51,7 +51,7 @@ pub fn take_lent(s: &[u8], at: usize) -> Option<Lent<'_>> {
 }
 
 /// What an item has that runs two lists: the length of the room, the kit's list and the pupil's or a text, and where it ends.
-#[derive(Drop)]
+#[derive(Clone, Copy)]
 pub struct Lists<'a> {
     pub length: u16,
     pub kit: &'a [u8],
